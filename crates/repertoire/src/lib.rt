@@ -1,0 +1,28 @@
+// What the mill office keeps: links between motifs, the header that counts the motifs, and the refusals, each
+// with its number.
+ghost use mathlib.Core.Path.{_≡_};
+ghost use Rattle.repertoire.specs.Numbers.{refusalNumber};
+
+mod headers;
+mod links;
+mod refusals;
+
+pub use headers::Header;
+pub use links::Link;
+pub use refusals::Refusal;
+pub use refusals::RefusalDisplay;
+
+impl Refusal {
+    // The number under which the refusal is listed.
+    pub fn number(self) -> u8
+        ensures { λ r. ⌜ r ≡ refusalNumber self ⌝ }
+    {
+        match self {
+            Refusal::NotAFrame => 10,
+            Refusal::UnknownFrame => 11,
+            Refusal::FrameOutOfOrder => 12,
+            Refusal::TooFewRows => 13,
+            Refusal::BufferTooShort => 14,
+        }
+    }
+}

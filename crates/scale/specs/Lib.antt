@@ -1,0 +1,2 @@
+pub mod Weave
+pub mod Yarns
