@@ -73,9 +73,9 @@ cost-back c h =
     let w = digits 8 (c .second .second .value) in
     let float : value (part 0 4 (u ++ (v ++ w))) ≡ c .first .value = ap value (part-first 4 u (v ++ w) (length-digits 4 _)) ∙ value-digits 4 _ (h .0) in
     let yarns : value (part 4 8 (u ++ (v ++ w))) ≡ c .second .first .bits =
-          ap value (part-behind 4 0 8 u (v ++ w) (length-digits 4 _) ∙ part-first 8 v w (length-digits 8 _)) ∙ value-digits 8 _ (h .1) in
+    ap value (part-behind 4 0 8 u (v ++ w) (length-digits 4 _) ∙ part-first 8 v w (length-digits 8 _)) ∙ value-digits 8 _ (h .1) in
     let picks : value (part 12 8 (u ++ (v ++ w))) ≡ c .second .second .value =
-          ap value (part-behind 4 8 8 u (v ++ w) (length-digits 4 _) ∙ part-behind 8 0 8 v w (length-digits 8 _) ∙ part-whole 8 w (length-digits 8 _)) ∙ value-digits 8 _ (h .2) in
+    ap value (part-behind 4 8 8 u (v ++ w) (length-digits 4 _) ∙ part-behind 8 0 8 v w (length-digits 8 _) ∙ part-whole 8 w (length-digits 8 _)) ∙ value-digits 8 _ (h .2) in
     λ i. record { first = record { value = float i }; second = record { first = record { bits = yarns i }; second = record { value = picks i } } }
 
 entry-back : (e : Entry) → EntryFits e → entryAt (entryKind e) (body e) ≡ e
@@ -85,9 +85,9 @@ entry-back (entry.Header x) h =
     let w = digits 4 (x .goal) in
     let motifs : value (part 0 4 (u ++ (v ++ w))) ≡ x .motifs = ap value (part-first 4 u (v ++ w) (length-digits 4 _)) ∙ value-digits 4 _ (h .0) in
     let start : value (part 4 4 (u ++ (v ++ w))) ≡ x .start =
-          ap value (part-behind 4 0 4 u (v ++ w) (length-digits 4 _) ∙ part-first 4 v w (length-digits 4 _)) ∙ value-digits 4 _ (h .1) in
+    ap value (part-behind 4 0 4 u (v ++ w) (length-digits 4 _) ∙ part-first 4 v w (length-digits 4 _)) ∙ value-digits 4 _ (h .1) in
     let goal : value (part 8 4 (u ++ (v ++ w))) ≡ x .goal =
-          ap value (part-behind 4 4 4 u (v ++ w) (length-digits 4 _) ∙ part-behind 4 0 4 v w (length-digits 4 _) ∙ part-whole 4 w (length-digits 4 _)) ∙ value-digits 4 _ (h .2) in
+    ap value (part-behind 4 4 4 u (v ++ w) (length-digits 4 _) ∙ part-behind 4 0 4 v w (length-digits 4 _) ∙ part-whole 4 w (length-digits 4 _)) ∙ value-digits 4 _ (h .2) in
     λ i. entry.Header (record { motifs = motifs i; start = start i; goal = goal i })
 entry-back (entry.Link x) h =
     let u = digits 4 (x .from) in
@@ -95,9 +95,9 @@ entry-back (entry.Link x) h =
     let w = costDigits (x .cost) in
     let from : value (part 0 4 (u ++ (v ++ w))) ≡ x .from = ap value (part-first 4 u (v ++ w) (length-digits 4 _)) ∙ value-digits 4 _ (h .0) in
     let to : value (part 4 4 (u ++ (v ++ w))) ≡ x .to =
-          ap value (part-behind 4 0 4 u (v ++ w) (length-digits 4 _) ∙ part-first 4 v w (length-digits 4 _)) ∙ value-digits 4 _ (h .1) in
+    ap value (part-behind 4 0 4 u (v ++ w) (length-digits 4 _) ∙ part-first 4 v w (length-digits 4 _)) ∙ value-digits 4 _ (h .1) in
     let cost : costOf (part 8 20 (u ++ (v ++ w))) ≡ x .cost =
-          ap costOf (part-behind 4 4 20 u (v ++ w) (length-digits 4 _) ∙ part-behind 4 0 20 v w (length-digits 4 _) ∙ part-whole 20 w (length-costDigits (x .cost))) ∙ cost-back (x .cost) (h .2) in
+    ap costOf (part-behind 4 4 20 u (v ++ w) (length-digits 4 _) ∙ part-behind 4 0 20 v w (length-digits 4 _) ∙ part-whole 20 w (length-costDigits (x .cost))) ∙ cost-back (x .cost) (h .2) in
     λ i. entry.Link (record { from = from i; to = to i; cost = cost i })
 entry-back (entry.Guide c) h = ap entry.Guide (cost-back c h)
 entry-back (entry.Limits c) h = ap entry.Limits (cost-back c h)
@@ -161,6 +161,7 @@ code-again n k e = either kind.Header (either kind.Link (either kind.Guide (eith
     go : (x : Bool) → eqb n (code j) ≡ x → cond x (Some j) rest ≡ Some k → n ≡ code k
     go true t e = let same : j ≡ k = cc in eqb-true _ _ t ∙ ap code same
     go false t e = other e
+
   none : None ≡ Some k → n ≡ code k
   none e = let z : _≡_ {A = ℕ} 0 1 = cc in absurd (omega arith)
 
@@ -175,7 +176,7 @@ framed-text t h e d =
     let odd : length l % 2 ≡ 1 = omega arith in
     let m : length t ≡ length l - 1 = omega arith in
     and-from _ _ (le-leb 3 (length l) long)
-      (and-from _ _ (eq-eqb (length l % 2) 1 odd) (and-from _ _ (ap allDigits (take-at t (10 ∷ []) (length l - 1) m) ∙ d) (eq-eqb _ 10 (getD-push t 10 0 (length l - 1) m))))
+    (and-from _ _ (eq-eqb (length l % 2) 1 odd) (and-from _ _ (ap allDigits (take-at t (10 ∷ []) (length l - 1) m) ∙ d) (eq-eqb _ 10 (getD-push t 10 0 (length l - 1) m))))
 
 module _ (l : List ℕ) (framed : isFrame l ≡ true) where
   pub frame-length : 3 ≤ length l
@@ -192,8 +193,8 @@ module _ (l : List ℕ) (framed : isFrame l ≡ true) where
   frame-parts =
       let long = frame-length in
       let last : drop (length l - 3) (drop 2 l) ≡ 10 ∷ [] =
-            drop-drop (length l - 3) 2 l ∙ ap (λ k. drop k l) {x = 2 + (length l - 3)} {y = length l - 1} (omega arith) ∙ drop-more l (length l - 1) 0 (omega arith)
-            ∙ ap (λ x. x ∷ drop (length l - 1 + 1) l) frame-feed ∙ ap (λ x. 10 ∷ x) (drop-all (length l - 1 + 1) l (omega arith)) in
+      drop-drop (length l - 3) 2 l ∙ ap (λ k. drop k l) {x = 2 + (length l - 3)} {y = length l - 1} (omega arith) ∙ drop-more l (length l - 1) 0 (omega arith)
+      ∙ ap (λ x. x ∷ drop (length l - 1 + 1) l) frame-feed ∙ ap (λ x. 10 ∷ x) (drop-all (length l - 1 + 1) l (omega arith)) in
       sym (take-append-drop 2 l) ∙ ap (λ x. take 2 l ++ x) (sym (take-append-drop (length l - 3) (drop 2 l)) ∙ ap (λ x. bodyOf l ++ x) last)
 
   -- what was read is written again
@@ -202,10 +203,10 @@ module _ (l : List ℕ) (framed : isFrame l ≡ true) where
   line-again k e =
       let long = frame-length in
       let first : digits 2 (code k) ≡ take 2 l =
-            ap (digits 2) (sym (code-again (value (take 2 l)) k (known-name l k e)))
-            ∙ digits-value 2 (take 2 l) (length-take-le 2 l (omega arith)) (ap allDigits (sym (take-take 2 (length l - 1) l (omega arith))) ∙ allDigits-take 2 (take (length l - 1) l) frame-digits) in
+      ap (digits 2) (sym (code-again (value (take 2 l)) k (known-name l k e)))
+      ∙ digits-value 2 (take 2 l) (length-take-le 2 l (omega arith)) (ap allDigits (sym (take-take 2 (length l - 1) l (omega arith))) ∙ allDigits-take 2 (take (length l - 1) l) frame-digits) in
       let rest : body (entryAt k (bodyOf l)) ≡ bodyOf l =
-            body-again k (bodyOf l) (length-known-body l k e) (ap allDigits (sym (body-drop l long)) ∙ allDigits-drop 2 (take (length l - 1) l) frame-digits) in
+      body-again k (bodyOf l) (length-known-body l k e) (ap allDigits (sym (body-drop l long)) ∙ allDigits-drop 2 (take (length l - 1) l) frame-digits) in
       (λ i. digits 2 (code (kind-again k (bodyOf l) i)) ++ (rest i ++ (10 ∷ []))) ∙ ap (λ x. x ++ (bodyOf l ++ (10 ∷ []))) first ∙ sym frame-parts
 
 -- a frame that was read is the line of what it said

@@ -18,7 +18,8 @@ pub enum Refusal {
 pub impl fmt::Display for Refusal as RefusalDisplay {
     fn fmt<W: fmt::Write>(&self, f: &mut fmt::Formatter<W>) -> fmt::Result {
         let meaning = match self {
-            Refusal::NotAFrame => "a line is not a frame: an even number of the digits 0-9 and a-f, at least two, then a line feed",
+            Refusal::NotAFrame =>
+                "a line is not a frame: an even number of the digits 0-9 and a-f, at least two, then a line feed",
             Refusal::UnknownFrame => "a frame has an unknown kind or a wrong length",
             Refusal::FrameOutOfOrder => "a frame is out of order, missing or once too many",
             Refusal::TooFewRows => "there are more links or guides than there is room for",

@@ -107,15 +107,19 @@ module _ (s : Sheet) where
       let lm = length-line (entry.Limits (s .limits)) in
       let le = length-line entry.End in
       record {
-        header = lh; links = ll; guides = lg; limits = lm; end = le;
+        header = lh;
+        links = ll;
+        guides = lg;
+        limits = lm;
+        end = le;
         whole = omega (arith, ap length written-parts, length-append h (l ++ (g ++ (m ++ e))), length-append l (g ++ (m ++ e)), length-append g (m ++ e), length-append m e);
       }
 
   -- its five parts, one behind another from the front
   module _ (b c d e f g : List ℕ) (i j k n : ℕ) (room : length (written s) ≤ length b) where
     pub written-front : i ≡ 0 + length (lineOf (entry.Header (s .header))) → j ≡ i + length (textOf (map entry.Link (s .links))) → k ≡ j + length (textOf (map entry.Guide (s .guides))) → n ≡ k + length (lineOf (entry.Limits (s .limits)))
-      → c ≡ over b 0 (lineOf (entry.Header (s .header))) → d ≡ over c i (textOf (map entry.Link (s .links))) → e ≡ over d j (textOf (map entry.Guide (s .guides))) → f ≡ over e k (lineOf (entry.Limits (s .limits))) → g ≡ over f n (lineOf entry.End)
-      → g ≡ onto (written s) b
+        → c ≡ over b 0 (lineOf (entry.Header (s .header))) → d ≡ over c i (textOf (map entry.Link (s .links))) → e ≡ over d j (textOf (map entry.Guide (s .guides))) → f ≡ over e k (lineOf (entry.Limits (s .limits))) → g ≡ over f n (lineOf entry.End)
+        → g ≡ onto (written s) b
     written-front pi pj pk pn hc hd he hf hg =
         let u = lineOf (entry.Header (s .header)) in
         let v = textOf (map entry.Link (s .links)) in

@@ -28,7 +28,7 @@ filled-entries : (f : Filling) (n : ℕ) (ls : List (List ℕ)) → firstNot n i
 filled-entries f n [] h = refl
 filled-entries f n (l ∷ ls) h = go (isFrame l) (entryOf l) h (λ g. filled-entries g (n + 1) ls) where
   go : (x : Bool) (o : Option Entry) → cond x (firstNot (n + 1) isFrame ls) (Some n) ≡ None → ((g : Filling) → firstNot (n + 1) isFrame ls ≡ None → filled g ls ≡ folded stored g (entriesIn ls))
-    → filled (storedRead f (cond x (okOr o UnknownFrame) (Err NotAFrame))) ls ≡ folded stored f (listOf o ++ entriesIn ls)
+      → filled (storedRead f (cond x (okOr o UnknownFrame) (Err NotAFrame))) ls ≡ folded stored f (listOf o ++ entriesIn ls)
   go true None e rest = rest f e
   go true (Some x) e rest = rest (stored f x) e
   go false o e rest = let z : _≡_ {A = ℕ} 0 1 = cc in absurd (omega arith)
@@ -98,7 +98,7 @@ placed-front rows xs = let e : 0 + length xs ≡ length xs = omega arith in ap (
 
 module _ (links : List (Link WeaveCost)) (guides : List WeaveCost) (ls : List (List ℕ)) where
   pub filled-sheet : firstNot 1 isFrame ls ≡ None → length (linksIn (entriesIn ls)) ≤ length links → length (guidesIn (entriesIn ls)) ≤ length guides
-    → filled (filling empty links guides) ls ≡ filling (contentsOf (gathered (entriesIn ls))) (onto (linksIn (entriesIn ls)) links) (onto (guidesIn (entriesIn ls)) guides)
+      → filled (filling empty links guides) ls ≡ filling (contentsOf (gathered (entriesIn ls))) (onto (linksIn (entriesIn ls)) links) (onto (guidesIn (entriesIn ls)) guides)
   filled-sheet framed room place =
       let f = filling empty links guides in
       let es = entriesIn ls in

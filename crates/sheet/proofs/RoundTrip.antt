@@ -35,8 +35,8 @@ lines-again : (n : ℕ) (ls : List (List ℕ)) → firstNot n isFrame ls ≡ Non
 lines-again n [] f k = refl
 lines-again n (l ∷ ls) f k = go (isFrame l) refl (kindOf l) refl f k (lines-again (n + 1) ls) where
   go : (x : Bool) → isFrame l ≡ x → (o : Option Kind) → kindOf l ≡ o → cond x (firstNot (n + 1) isFrame ls) (Some n) ≡ None → cond (isSome o) (firstNot (n + 1) (λ r. isSome (kindOf r)) ls) (Some n) ≡ None
-    → (firstNot (n + 1) isFrame ls ≡ None → firstNot (n + 1) (λ r. isSome (kindOf r)) ls ≡ None → joined lineOf (entriesIn ls) ≡ joined (λ r. r) ls)
-    → joined lineOf (listOf (mapped (λ j. entryAt j (bodyOf l)) o) ++ entriesIn ls) ≡ l ++ joined (λ r. r) ls
+      → (firstNot (n + 1) isFrame ls ≡ None → firstNot (n + 1) (λ r. isSome (kindOf r)) ls ≡ None → joined lineOf (entriesIn ls) ≡ joined (λ r. r) ls)
+      → joined lineOf (listOf (mapped (λ j. entryAt j (bodyOf l)) o) ++ entriesIn ls) ≡ l ++ joined (λ r. r) ls
   go true e (Some j) d f k rest = (λ i. line-again l e j d i ++ rest f k i)
   go true e None d f k rest = let z : _≡_ {A = ℕ} 0 1 = cc in absurd (omega arith)
   go false e o d f k rest = let z : _≡_ {A = ℕ} 0 1 = cc in absurd (omega arith)
@@ -50,9 +50,10 @@ order-again n last (l ∷ ls) k m = go (kindOf l) k m (λ j. order-again (n + 1)
   may : (x b : Bool) (rest : Option ℕ) → (rest ≡ None → b ≡ true) → cond x rest (Some n) ≡ None → (x && b) ≡ true
   may true b rest then e = then e
   may false b rest then e = let z : _≡_ {A = ℕ} 0 1 = cc in absurd (omega arith)
+
   go : (o : Option Kind) → cond (isSome o) (firstNot (n + 1) (λ r. isSome (kindOf r)) ls) (Some n) ≡ None → cond (comes last o) (misplaced (n + 1) (behind last o) ls) (Some n) ≡ None
-    → ((j : Kind) → firstNot (n + 1) (λ r. isSome (kindOf r)) ls ≡ None → misplaced (n + 1) (Some j) ls ≡ None → inOrder (Some j) (entriesIn ls) ≡ true)
-    → inOrder last (listOf (mapped (λ j. entryAt j (bodyOf l)) o) ++ entriesIn ls) ≡ true
+      → ((j : Kind) → firstNot (n + 1) (λ r. isSome (kindOf r)) ls ≡ None → misplaced (n + 1) (Some j) ls ≡ None → inOrder (Some j) (entriesIn ls) ≡ true)
+      → inOrder last (listOf (mapped (λ j. entryAt j (bodyOf l)) o) ++ entriesIn ls) ≡ true
   go None k m rest = let z : _≡_ {A = ℕ} 0 1 = cc in absurd (omega arith)
   go (Some j) k m rest =
       (λ i. mayFollow last (kind-again j (bodyOf l) i) && inOrder (Some (kind-again j (bodyOf l) i)) (entriesIn ls))

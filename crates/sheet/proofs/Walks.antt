@@ -111,8 +111,8 @@ module _ (linkRows guideRows : ℕ) (s : List ℕ) where
       let links : length (linksIn (entriesIn (lines s))) ≡ w .links = omega (arith, walked-links begun (lines s)) in
       let guides : length (guidesIn (entriesIn (lines s))) ≡ w .guides = omega (arith, walked-guides begun (lines s)) in
       let step : unfaulted (faultOf linkRows guideRows w) r ≡ unless (w .unknown) UnknownFrame (unless ending FrameOutOfOrder (unless (rowless linkRows guideRows (w .links) (w .guides)) TooFewRows r)) =
-            unfaulted-found (w .unknown) UnknownFrame _ r
-            ∙ ap (unless (w .unknown) UnknownFrame) (unfaulted-found ending FrameOutOfOrder _ r ∙ ap (unless ending FrameOutOfOrder) (unfaulted-found (rowless linkRows guideRows (w .links) (w .guides)) TooFewRows None r)) in
+      unfaulted-found (w .unknown) UnknownFrame _ r
+      ∙ ap (unless (w .unknown) UnknownFrame) (unfaulted-found ending FrameOutOfOrder _ r ∙ ap (unless ending FrameOutOfOrder) (unfaulted-found (rowless linkRows guideRows (w .links) (w .guides)) TooFewRows None r)) in
       (λ i. unless first NotAFrame (unless (unknown i) UnknownFrame (unless (order i) FrameOutOfOrder (unless (rowless linkRows guideRows (links i) (guides i)) TooFewRows r)))) ∙ ap (unless first NotAFrame) (sym step)
 
   -- a line that is no frame decides
@@ -128,6 +128,6 @@ module _ (linkRows guideRows : ℕ) (s : List ℕ) where
       let both = go (firstNot 1 isFrame (lines s)) (sym (surveyed-is begun (lines s)) ∙ h) in
       (both .0, decoded-walked ∙ both .1)
     where
-    go : (o : Option ℕ) → unless o NotAFrame (Ok (walked begun (lines s))) ≡ Ok v → (o ≡ None) × (unless o NotAFrame (unfaulted (faultOf linkRows guideRows (walked begun (lines s))) (Ok (gathered (entriesIn (lines s))))) ≡ unfaulted (faultOf linkRows guideRows v) (Ok (gathered (entriesIn (lines s)))))
-    go None e = let same : walked begun (lines s) ≡ v = cc in (refl, ap (λ w. unfaulted (faultOf linkRows guideRows w) (Ok (gathered (entriesIn (lines s))))) same)
-    go (Some n) e = let z : _≡_ {A = ℕ} 0 1 = cc in absurd (omega arith)
+      go : (o : Option ℕ) → unless o NotAFrame (Ok (walked begun (lines s))) ≡ Ok v → (o ≡ None) × (unless o NotAFrame (unfaulted (faultOf linkRows guideRows (walked begun (lines s))) (Ok (gathered (entriesIn (lines s))))) ≡ unfaulted (faultOf linkRows guideRows v) (Ok (gathered (entriesIn (lines s)))))
+      go None e = let same : walked begun (lines s) ≡ v = cc in (refl, ap (λ w. unfaulted (faultOf linkRows guideRows w) (Ok (gathered (entriesIn (lines s))))) same)
+      go (Some n) e = let z : _≡_ {A = ℕ} 0 1 = cc in absurd (omega arith)

@@ -109,9 +109,9 @@ unless (Some n) why r = Err (record { refusal = why; line = n })
 abbrev pub decoded : ℕ → ℕ → List ℕ → Result Sheet Fault
 decoded linkRows guideRows s =
     unless (firstNot 1 isFrame (lines s)) NotAFrame
-      (unless (firstNot 1 (λ l. isSome (kindOf l)) (lines s)) UnknownFrame
-        (unless (misplaced 1 None (lines s)) FrameOutOfOrder
-          (unless (rowless linkRows guideRows (length (linksIn (entriesIn (lines s)))) (length (guidesIn (entriesIn (lines s))))) TooFewRows (Ok (gathered (entriesIn (lines s)))))))
+    (unless (firstNot 1 (λ l. isSome (kindOf l)) (lines s)) UnknownFrame
+    (unless (misplaced 1 None (lines s)) FrameOutOfOrder
+    (unless (rowless linkRows guideRows (length (linksIn (entriesIn (lines s)))) (length (guidesIn (entriesIn (lines s))))) TooFewRows (Ok (gathered (entriesIn (lines s)))))))
 
 -- what is written of a sheet reads back as that sheet, into any rows that suffice
 abbrev pub RoundTrips : Sheet → Type 0

@@ -57,7 +57,8 @@ with v k = record {
   unknown = orOther (v .unknown) (noted (isSome k) (v .line));
   misplaced = orOther (v .misplaced) (noted (comes (v .last) k) (v .line));
   links = v .links + oneLink k;
-  guides = v .guides + oneGuide k }
+  guides = v .guides + oneGuide k;
+}
 
 -- the lines that are left, up to one that is no frame
 abbrev pub surveyed : Survey → List (List ℕ) → Result Survey Fault
@@ -73,8 +74,8 @@ found (Some n) why other = Some (record { refusal = why; line = n })
 abbrev pub faultOf : ℕ → ℕ → Survey → Option Fault
 faultOf linkRows guideRows v =
     found (v .unknown) UnknownFrame
-      (found (orOther (v .misplaced) (noted (mayEnd (v .last)) (v .line))) FrameOutOfOrder
-        (found (rowless linkRows guideRows (v .links) (v .guides)) TooFewRows None))
+    (found (orOther (v .misplaced) (noted (mayEnd (v .last)) (v .line))) FrameOutOfOrder
+    (found (rowless linkRows guideRows (v .links) (v .guides)) TooFewRows None))
 
 -- ---- the second walk: fill the rows
 

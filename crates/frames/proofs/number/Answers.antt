@@ -19,8 +19,7 @@ loop-digit-again c =
     let i = c .loop-digit .digit-index in
     let n = c .loop-digit .number in
     let d : c .from .result ≡ digitValue (getD xs i 0) = c .from .ensures ∙ c .digit-value .ensures .value in
-    let step : valueFrom n (drop i xs) ≡ valueFrom (n * 16 + digitValue (getD xs i 0)) (drop (i + 1) xs) = at-drop-more (valueFrom n) xs i 0 (c .loop-digit-test .taken) in
-    (
+    let step : valueFrom n (drop i xs) ≡ valueFrom (n * 16 + digitValue (getD xs i 0)) (drop (i + 1) xs) = at-drop-more (valueFrom n) xs i 0 (c .loop-digit-test .taken) in (
       digit-more n (c .from .result) i (c .loop-digit .inv .0) (omega arith),
       ap (λ x. valueFrom (n * 16 + x) (drop (i + 1) xs)) d ∙ sym step ∙ c .loop-digit .inv .1,
     )
