@@ -11,6 +11,7 @@ mod refusals;
 
 pub use headers::Header;
 pub use links::Link;
+pub use links::LinkClone;
 pub use refusals::Refusal;
 pub use refusals::RefusalDisplay;
 

@@ -9,6 +9,7 @@ mod tallies;
 mod yarns;
 
 pub use pairs::Pair;
+pub use pairs::PairClone;
 pub use peaks::Peak;
 pub use tallies::Tally;
 pub use yarns::YarnSet;

@@ -7,6 +7,7 @@ use native.Mathlib.Omega.{arith}
 use lib.Dec.{leb}
 use lib.ListN.{length, drop, getD}
 use Rattle.std.proofs.shelf.Lists.{at-drop-more, drop-more, drop-all, append-assoc, append-nil, length-append}
+use Rattle.std.proofs.shelf.Elements.{all-append}
 use Rattle.std.proofs.shelf.Tests.{cond-true, le-leb}
 use Rattle.std.specs.Vec.{made}
 use Rattle.std.specs.shelf.Lists.{All}
@@ -140,13 +141,9 @@ module _ (s : Sheet) where
 
 -- ---- all its entries read back
 
-all-append : (xs ys : List Entry) → All ReadsBack xs → All ReadsBack ys → All ReadsBack (xs ++ ys)
-all-append [] ys h k = k
-all-append (x ∷ xs) ys h k = (h .0, all-append xs ys (h .1) k)
-
 pub each-back : (s : Sheet) → ReadsBack (entry.Header (s .header)) → All ReadsBack (map entry.Link (s .links)) → All ReadsBack (map entry.Guide (s .guides)) → ReadsBack (entry.Limits (s .limits)) → All ReadsBack (entriesOf s)
 each-back s header links guides limits =
-    (header, all-append (map entry.Link (s .links)) _ links (all-append (map entry.Guide (s .guides)) _ guides (limits, (read-back entry.End tt, tt))))
+    (header, all-append ReadsBack (map entry.Link (s .links)) _ links (all-append ReadsBack (map entry.Guide (s .guides)) _ guides (limits, (read-back entry.End tt, tt))))
 
 pub made-any : {X Y : Type 0} (r : Result X Y) (P : Type 0) → P → made r (λ _. P)
 made-any (Ok x) P h = h

@@ -1,6 +1,6 @@
 // A sheet read into the rows of its caller.
 ghost use mathlib.Core.Path.{_≡_};
-ghost use Prim.Native.Nat.{_+_, _^_, _<_};
+ghost use Prim.Native.Nat.{_+_, _^_, _≤_, _<_};
 ghost use lib.ListN.{length};
 ghost use Rattle.std.specs.Vec.{made};
 ghost use Rattle.frames.specs.Lines.{lines};
@@ -88,6 +88,7 @@ pub fn decode(
     ensures value { λ r. ⌜ r ≡ answered (decoded (length (now (links .entry))) (length (now (guides .entry))) (now (sheet .entry))) ⌝ }
     ensures links { λ _. ⌜ now (links .exit) ≡ linksAfter (decoded (length (now (links .entry))) (length (now (guides .entry))) (now (sheet .entry))) (now (links .entry)) ⌝ }
     ensures guides { λ _. ⌜ now (guides .exit) ≡ guidesAfter (decoded (length (now (links .entry))) (length (now (guides .entry))) (now (sheet .entry))) (now (guides .entry)) ⌝ }
+    ensures within { λ r. ⌜ made r (λ c. (c .links ≤ length (now (links .entry))) × (c .guides ≤ length (now (guides .entry)))) ⌝ }
     ensures again { λ _. ⌜ made (decoded (length (now (links .entry))) (length (now (guides .entry))) (now (sheet .entry))) (λ s. written s ≡ now (sheet .entry)) ⌝ }
 {
     let survey = survey(sheet)?;

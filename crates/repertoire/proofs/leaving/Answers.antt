@@ -10,8 +10,8 @@ use Rattle.repertoire.proofs.leaving.Needs.{then-link-motif, else-link-motif}
 pub loop-link-again : need.loop-link-again
 loop-link-again g c =
     elim (c .if-link-motif .came) [
-      then-link-motif w ↦ counted-yes (leaves (c .args .motif)) _ _ _ _ (c .link-item .result) (c .loop-link-test .taken) (c .link-item .is) (c .loop-link .inv) (w .count-is) (eq-eqb _ _ (w .if-link-motif .taken))
-    | else-link-motif w ↦ counted-no (leaves (c .args .motif)) _ _ _ _ (c .link-item .result) (c .loop-link-test .taken) (c .link-item .is) (c .loop-link .inv) (w .count-is) (ne-eqb _ _ (w .if-link-motif .left))
+      | then-link-motif w ↦ counted-yes (leaves (c .args .motif)) _ _ _ _ (c .link-item .result) (c .loop-link-test .taken) (c .link-item .is) (c .loop-link .inv) (w .count-is) (eq-eqb _ _ (w .if-link-motif .taken))
+      | else-link-motif w ↦ counted-no (leaves (c .args .motif)) _ _ _ _ (c .link-item .result) (c .loop-link-test .taken) (c .link-item .is) (c .loop-link .inv) (w .count-is) (ne-eqb _ _ (w .if-link-motif .left))
     ]
 
 pub returns : need.returns

@@ -1,6 +1,9 @@
 use mathlib.Core.Path.{_≡_, refl, sym, ap, subst, _∙_}
+use Prim.Native.Nat.{_≤_}
+use native.Mathlib.Omega.{arith}
 use lib.ListN.{length}
 use Rattle.std.proofs.shelf.Results.{err-from-errBy}
+use Rattle.std.specs.Vec.{made}
 use Rattle.std.specs.declared.result.Result.the-variants.{Ok, Err}
 use Rattle.std.specs.declared.option.Option.the-variants.{Some, None}
 use Rattle.frames.specs.Lines.{lines}
@@ -21,6 +24,7 @@ returns-in-Break-survey c =
       value = p .1 ∙ ap Err (p .2) ∙ sym (ap answered d);
       links = sym (ap (λ r. linksAfter r (c .args .links .now)) d);
       guides = sym (ap (λ r. guidesAfter r (c .args .guides .now)) d);
+      within = subst (λ r. made r (λ x. (x .links ≤ m) × (x .guides ≤ n))) (sym (p .1)) tt;
       again = again m n (c .args .sheet .now);
     }
 
@@ -35,6 +39,7 @@ returns-in-Some c =
       value = sym (ap answered d);
       links = sym (ap (λ r. linksAfter r (c .args .links .now)) d);
       guides = sym (ap (λ r. guidesAfter r (c .args .guides .now)) d);
+      within = tt;
       again = again m n (c .args .sheet .now);
     }
 
@@ -52,5 +57,6 @@ returns c =
       value = ap (λ x. Ok (x .contents)) f ∙ sym (ap answered d);
       links = ap (λ x. x .links) f ∙ sym (ap (λ r. linksAfter r (c .args .links .now)) d);
       guides = ap (λ x. x .guides) f ∙ sym (ap (λ r. guidesAfter r (c .args .guides .now)) d);
+      within = (omega (arith, ap (λ x. x .contents .links) f, rows .0), omega (arith, ap (λ x. x .contents .guides) f, rows .1));
       again = again m n s;
     }
