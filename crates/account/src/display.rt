@@ -6,7 +6,6 @@ use repertoire::Refusal;
 use repertoire::RefusalDisplay;
 use scale::WeaveCost;
 use scale::YarnSet;
-use sheet::Fault;
 use std::fmt;
 
 // The numbers of the yarns in a set, in rising order.

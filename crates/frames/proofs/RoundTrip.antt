@@ -1,12 +1,12 @@
 -- A line that was written reads back, and a line that was read is written again.
-use mathlib.Core.Path.{_≡_, refl, sym, ap, subst, _∙_}
-use mathlib.Core.Bool.{Bool, true, false, cond, _&&_}
+use mathlib.Core.Path.{_≡_, refl, sym, ap, _∙_}
+use mathlib.Core.Bool.{Bool, true, false, cond}
 use mathlib.Core.List.{List, [], _∷_, _++_}
 use Prim.Native.Nat.{ℕ, _+_, _-_, _%_, _^_, _≤_, _<_}
 use native.Mathlib.Omega.{arith}
 use lib.Dec.{leb, eqb}
 use lib.ListN.{length, getD, take, drop}
-use Rattle.std.proofs.shelf.Lists.{append-assoc, append-nil, length-append, length-push, length-take-le, length-drop, take-at, drop-at, drop-drop, take-append-drop, take-all, getD-push, drop-more, drop-all, take-take, nil-from-length}
+use Rattle.std.proofs.shelf.Lists.{append-assoc, length-append, length-push, length-take-le, length-drop, take-at, drop-at, drop-drop, take-append-drop, take-all, getD-push, drop-more, drop-all, take-take, nil-from-length}
 use Rattle.std.proofs.shelf.Tests.{and-parts, and-from, le-leb, leb-true, eq-eqb, eqb-true, cond-true}
 use Rattle.std.specs.Options.{mapped, okOr}
 use Rattle.std.specs.declared.option.Option.{Option}

@@ -11,8 +11,6 @@ use Rattle.std.specs.declared.option.Option.the-variants.{Some, None}
 use Rattle.std.specs.declared.result.Result.{Result}
 use Rattle.std.specs.declared.result.Result.the-variants.{Ok, Err}
 use Rattle.scale.specs.Weave.{WeaveCost, woven}
-use Rattle.repertoire.specs.declared.headers.Header as headers
-use Rattle.repertoire.specs.declared.links.Link as links
 use Rattle.repertoire.specs.declared.refusals.Refusal.{Refusal}
 use Rattle.repertoire.specs.declared.refusals.Refusal.the-variants.{NotAFrame, UnknownFrame, FrameOutOfOrder, TooFewRows, BufferTooShort}
 use Rattle.frames.specs.declared.kinds.Kind.{Kind}

@@ -11,7 +11,7 @@ use Rattle.std.specs.Options.{okOr}
 use Rattle.std.specs.Vec.{listOf}
 use Rattle.std.specs.declared.option.Option.{Option}
 use Rattle.std.specs.declared.option.Option.the-variants.{Some, None}
-use Rattle.std.specs.declared.result.Result.the-variants.{Ok, Err}
+use Rattle.std.specs.declared.result.Result.the-variants.{Err}
 use Rattle.scale.specs.Weave.{WeaveCost}
 use Rattle.repertoire.specs.declared.links.Link.{Link}
 use Rattle.repertoire.specs.declared.refusals.Refusal.the-variants.{NotAFrame, UnknownFrame}

@@ -8,7 +8,7 @@ use lib.Dec.{ltb}
 use lib.ListN.{length}
 use Rattle.std.proofs.shelf.Tests.{cond-true, cond-false, and-parts, le-ltb, ltb-false}
 use Rattle.std.specs.Joined.{joined}
-use Rattle.std.specs.Options.{isSome, mapped, okOr}
+use Rattle.std.specs.Options.{isSome, mapped}
 use Rattle.std.specs.Vec.{listOf, made}
 use Rattle.std.specs.shelf.Lists.{All}
 use Rattle.std.specs.declared.option.Option.{Option}

@@ -20,7 +20,7 @@ use Rattle.frames.specs.Frames.{isFrame, kindOf, bodyOf, entryAt}
 use Rattle.frames.specs.Lines.{lines}
 use Rattle.sheet.specs.declared.faults.Fault.{Fault}
 use Rattle.sheet.specs.declared.surveys.Survey.{Survey}
-use Rattle.sheet.specs.Order.{mayEnd, comes, behind, firstNot, misplaced}
+use Rattle.sheet.specs.Order.{mayEnd, comes, firstNot, misplaced}
 use Rattle.sheet.specs.Sheets.{Sheet, entriesIn, linksIn, guidesIn, gathered, rowless, unless, decoded}
 use Rattle.sheet.specs.Steps.{noted, oneLink, oneGuide, begun, with, surveyed, found, faultOf}
 

@@ -1,9 +1,9 @@
 -- What a sheet says, and how it is written.
 use mathlib.Core.Path.{_≡_}
-use mathlib.Core.Bool.{Bool, cond}
+use mathlib.Core.Bool.{cond}
 use mathlib.Core.List.{List, [], _∷_, _++_, map}
 use Prim.Native.Nat.{ℕ, _+_, _≤_}
-use lib.Dec.{ltb}
+use lib.Dec.{leb, ltb}
 use lib.ListN.{length, drop}
 use Rattle.std.specs.Joined.{joined}
 use Rattle.std.specs.Options.{isSome}
@@ -16,7 +16,7 @@ use Rattle.scale.specs.Weave.{WeaveCost, woven}
 use Rattle.repertoire.specs.declared.headers.Header.{Header}
 use Rattle.repertoire.specs.declared.links.Link.{Link}
 use Rattle.repertoire.specs.declared.refusals.Refusal.{Refusal}
-use Rattle.repertoire.specs.declared.refusals.Refusal.the-variants.{NotAFrame, UnknownFrame, FrameOutOfOrder, TooFewRows}
+use Rattle.repertoire.specs.declared.refusals.Refusal.the-variants.{NotAFrame, UnknownFrame, FrameOutOfOrder, TooFewRows, BufferTooShort}
 use Rattle.frames.specs.declared.entries.Entry.{Entry}
 use Rattle.frames.specs.declared.entries.Entry.the-variants as entry
 use Rattle.frames.specs.Frames.{isFrame, kindOf, entryOf, lineOf}
@@ -31,6 +31,10 @@ pub record Sheet : Type 0 where
   pub links : List (Link WeaveCost)
   pub guides : List WeaveCost
   pub limits : WeaveCost
+
+-- xs at the front of what was there, which stays behind them
+abbrev pub onto : {A : Type 0} → List A → List A → List A
+onto xs ys = xs ++ drop (length xs) ys
 
 -- ---- writing
 
@@ -113,15 +117,18 @@ decoded linkRows guideRows s =
     (unless (misplaced 1 None (lines s)) FrameOutOfOrder
     (unless (rowless linkRows guideRows (length (linksIn (entriesIn (lines s)))) (length (guidesIn (entriesIn (lines s))))) TooFewRows (Ok (gathered (entriesIn (lines s)))))))
 
+-- what writing a sheet into a buffer answers, and what the buffer holds then
+abbrev pub lengthIn : Sheet → List ℕ → Result ℕ Refusal
+lengthIn s buffer = cond (leb (length (written s)) (length buffer)) (Ok (length (written s))) (Err BufferTooShort)
+
+abbrev pub writtenInto : Sheet → List ℕ → List ℕ
+writtenInto s buffer = cond (leb (length (written s)) (length buffer)) (onto (written s) buffer) buffer
+
 -- what is written of a sheet reads back as that sheet, into any rows that suffice
 abbrev pub RoundTrips : Sheet → Type 0
 RoundTrips s = (linkRows guideRows : ℕ) → length (s .links) ≤ linkRows → length (s .guides) ≤ guideRows → decoded linkRows guideRows (written s) ≡ Ok s
 
 -- ---- rows
-
--- xs at the front of the rows, which stay behind them
-abbrev pub onto : {A : Type 0} → List A → List A → List A
-onto xs rows = xs ++ drop (length xs) rows
 
 abbrev pub contentsOf : Sheet → Contents
 contentsOf s = record { header = s .header; limits = s .limits; links = length (s .links); guides = length (s .guides) }

@@ -1,17 +1,14 @@
 // A sheet written into the buffer of its caller.
 ghost use mathlib.Core.Path.{_≡_};
-ghost use mathlib.Core.Bool.{cond};
 ghost use mathlib.Core.List.{map};
 ghost use Prim.Native.Nat.{_+_, _*_, _≤_};
-ghost use lib.Dec.{leb};
 ghost use lib.ListN.{length};
 ghost use Rattle.std.specs.Vec.{made};
 ghost use Rattle.std.specs.shelf.Lists.{All};
-ghost use Rattle.std.specs.declared.result.Result.the-variants.{Ok, Err};
-ghost use Rattle.repertoire.specs.declared.refusals.Refusal.the-variants.{BufferTooShort};
+ghost use Rattle.std.specs.declared.result.Result.the-variants.{Ok};
 ghost use Rattle.frames.specs.declared.entries.Entry.the-variants.{Link as LinkEntry, Guide as GuideEntry};
 ghost use Rattle.frames.specs.Frames.{over, ReadsBack};
-ghost use Rattle.sheet.specs.Sheets.{written, records, onto, textOf, RoundTrips};
+ghost use Rattle.sheet.specs.Sheets.{records, textOf, lengthIn, writtenInto, RoundTrips};
 use super::rows::Row;
 use frames::Entry;
 use frames::write;
@@ -75,8 +72,8 @@ pub fn encode(
     limits: WeaveCost,
     buffer: &mut [u8],
 ) -> Result<usize, Refusal>
-    ensures value { λ r. ⌜ r ≡ cond (leb (length (written (records header (now (links .entry)) (now (guides .entry)) limits))) (length (now (buffer .entry)))) (Ok (length (written (records header (now (links .entry)) (now (guides .entry)) limits)))) (Err BufferTooShort) ⌝ }
-    ensures after { λ _. ⌜ now (buffer .exit) ≡ cond (leb (length (written (records header (now (links .entry)) (now (guides .entry)) limits))) (length (now (buffer .entry)))) (onto (written (records header (now (links .entry)) (now (guides .entry)) limits)) (now (buffer .entry))) (now (buffer .entry)) ⌝ }
+    ensures value { λ r. ⌜ r ≡ lengthIn (records header (now (links .entry)) (now (guides .entry)) limits) (now (buffer .entry)) ⌝ }
+    ensures after { λ _. ⌜ now (buffer .exit) ≡ writtenInto (records header (now (links .entry)) (now (guides .entry)) limits) (now (buffer .entry)) ⌝ }
     ensures back { λ r. ⌜ made r (λ _. RoundTrips (records header (now (links .entry)) (now (guides .entry)) limits)) ⌝ }
 {
     if sheet_length(links.len(), guides.len()) > buffer.len() as u128 {

@@ -1,11 +1,10 @@
 use mathlib.Core.Path.{_≡_, sym, ap, subst, _∙_}
-use Prim.Native.Nat.{_+_, _-_, _*_, _≤_}
+use Prim.Native.Nat.{_-_, _≤_}
 use borrow.Author.Needs.{needs}
-use native.Mathlib.Omega.{arith}
-use lib.ListN.{length, getD, take}
-use Rattle.std.specs.declared.option.Option.the-variants.{Some, None}
+use lib.ListN.{length, getD}
+use Rattle.std.specs.declared.option.Option.the-variants.{Some}
 use Rattle.frames.specs.Digits.{value}
-use Rattle.frames.specs.Frames.{coded, bodyLength, kindOf, bodyOf, Parted}
+use Rattle.frames.specs.Frames.{coded, bodyLength, Parted}
 use Rattle.frames.proofs.Reading.{body-is, length-body, framed, named, kind-known, kind-unknown}
 use Rattle.frames.proofs.parsing.parse.Needs as need
 

@@ -1,7 +1,5 @@
 use mathlib.Core.Path.{_≡_, sym, ap, subst, _∙_}
 use native.Mathlib.Omega.{arith}
-use Prim.Native.Nat.{_+_, _≤_}
-use lib.ListN.{length}
 use Rattle.frames.specs.Digits.{digits}
 use Rattle.frames.specs.Frames.{bodyLength, entryKind, body, over, EntryFits}
 use Rattle.frames.proofs.Writing.{over-none, over-three, length-digits}

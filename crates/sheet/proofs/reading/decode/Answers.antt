@@ -1,14 +1,12 @@
-use mathlib.Core.Path.{_≡_, refl, sym, ap, subst, _∙_}
+use mathlib.Core.Path.{_≡_, sym, ap, subst, _∙_}
 use Prim.Native.Nat.{_≤_}
 use native.Mathlib.Omega.{arith}
 use lib.ListN.{length}
 use Rattle.std.proofs.shelf.Results.{err-from-errBy}
 use Rattle.std.specs.Vec.{made}
 use Rattle.std.specs.declared.result.Result.the-variants.{Ok, Err}
-use Rattle.std.specs.declared.option.Option.the-variants.{Some, None}
 use Rattle.frames.specs.Lines.{lines}
-use Rattle.sheet.specs.Sheets.{Sheet, answered, linksAfter, guidesAfter, decoded, gathered, entriesIn}
-use Rattle.sheet.specs.Steps.{faultOf}
+use Rattle.sheet.specs.Sheets.{answered, linksAfter, guidesAfter, decoded, gathered, entriesIn}
 use Rattle.sheet.proofs.Fills.{filled-sheet}
 use Rattle.sheet.proofs.RoundTrip.{again, accepted-rows}
 use Rattle.sheet.proofs.Walks.{unfaulted, unframed-decides, survey-decides}

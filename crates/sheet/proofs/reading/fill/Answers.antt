@@ -1,4 +1,4 @@
-use mathlib.Core.Path.{_≡_, sym, ap, _∙_}
+use mathlib.Core.Path.{sym, ap, _∙_}
 use Rattle.frames.specs.Lines.{lines}
 use Rattle.sheet.specs.Steps.{filling, filled}
 use Rattle.sheet.proofs.reading.fill.Needs as need
