@@ -11,7 +11,7 @@ use Rattle.scale.specs.Weave.{WeaveCost}
 use Rattle.repertoire.specs.declared.links.Link.{Link}
 use Rattle.repertoire.specs.Links.{leaves, reaches}
 use Rattle.sheet.specs.declared.faults.Fault.{Fault}
-use Rattle.sheet.specs.Sheets.{Sheet, contentsOf, decoded, linksAfter, guidesAfter}
+use Rattle.sheet.specs.Sheets.{Sheet, contentsOf, decodedInto, linksAfter, guidesAfter}
 use Rattle.account.specs.declared.reports.Account.{Account}
 use Rattle.account.specs.declared.reports.Report.{Report}
 use Rattle.account.specs.declared.reports.Report.the-variants.{Accepted, Refused, TooLong}
@@ -30,10 +30,10 @@ unlessLong s a b = cond (ltb 65536 (length s)) a b
 
 -- the report on a sheet, and what the rows hold then
 abbrev pub reported : List (Link WeaveCost) → List WeaveCost → List ℕ → Report
-reported links guides s = unlessLong s TooLong (told (decoded (length links) (length guides) s))
+reported links guides s = unlessLong s TooLong (told (decodedInto links guides s))
 
 abbrev pub linksTold : List (Link WeaveCost) → List WeaveCost → List ℕ → List (Link WeaveCost)
-linksTold links guides s = unlessLong s links (linksAfter (decoded (length links) (length guides) s) links)
+linksTold links guides s = unlessLong s links (linksAfter (decodedInto links guides s) links)
 
 abbrev pub guidesTold : List (Link WeaveCost) → List WeaveCost → List ℕ → List WeaveCost
-guidesTold links guides s = unlessLong s guides (guidesAfter (decoded (length links) (length guides) s) guides)
+guidesTold links guides s = unlessLong s guides (guidesAfter (decodedInto links guides s) guides)

@@ -117,6 +117,10 @@ decoded linkRows guideRows s =
     (unless (misplaced 1 None (lines s)) FrameOutOfOrder
     (unless (rowless linkRows guideRows (length (linksIn (entriesIn (lines s)))) (length (guidesIn (entriesIn (lines s))))) TooFewRows (Ok (gathered (entriesIn (lines s)))))))
 
+-- the same, read into these rows
+abbrev pub decodedInto : List (Link WeaveCost) → List WeaveCost → List ℕ → Result Sheet Fault
+decodedInto links guides s = decoded (length links) (length guides) s
+
 -- what writing a sheet into a buffer answers, and what the buffer holds then
 abbrev pub lengthIn : Sheet → List ℕ → Result ℕ Refusal
 lengthIn s buffer = cond (leb (length (written s)) (length buffer)) (Ok (length (written s))) (Err BufferTooShort)

@@ -4,7 +4,7 @@ ghost use Prim.Native.Nat.{_+_, _^_, _≤_, _<_};
 ghost use lib.ListN.{length};
 ghost use Rattle.std.specs.Vec.{made};
 ghost use Rattle.frames.specs.Lines.{lines};
-ghost use Rattle.sheet.specs.Sheets.{answered, linksAfter, guidesAfter, decoded, written};
+ghost use Rattle.sheet.specs.Sheets.{answered, linksAfter, guidesAfter, decodedInto, written};
 ghost use Rattle.sheet.specs.Steps.{filling, empty, stored, filled};
 use super::Contents;
 use super::Fault;
@@ -85,11 +85,11 @@ pub fn decode(
     links: &mut [Link<WeaveCost>],
     guides: &mut [WeaveCost],
 ) -> Result<Contents, Fault>
-    ensures value { λ r. ⌜ r ≡ answered (decoded (length (now (links .entry))) (length (now (guides .entry))) (now (sheet .entry))) ⌝ }
-    ensures links { λ _. ⌜ now (links .exit) ≡ linksAfter (decoded (length (now (links .entry))) (length (now (guides .entry))) (now (sheet .entry))) (now (links .entry)) ⌝ }
-    ensures guides { λ _. ⌜ now (guides .exit) ≡ guidesAfter (decoded (length (now (links .entry))) (length (now (guides .entry))) (now (sheet .entry))) (now (guides .entry)) ⌝ }
+    ensures value { λ r. ⌜ r ≡ answered (decodedInto (now (links .entry)) (now (guides .entry)) (now (sheet .entry))) ⌝ }
+    ensures links { λ _. ⌜ now (links .exit) ≡ linksAfter (decodedInto (now (links .entry)) (now (guides .entry)) (now (sheet .entry))) (now (links .entry)) ⌝ }
+    ensures guides { λ _. ⌜ now (guides .exit) ≡ guidesAfter (decodedInto (now (links .entry)) (now (guides .entry)) (now (sheet .entry))) (now (guides .entry)) ⌝ }
     ensures within { λ r. ⌜ made r (λ c. (c .links ≤ length (now (links .entry))) × (c .guides ≤ length (now (guides .entry)))) ⌝ }
-    ensures again { λ _. ⌜ made (decoded (length (now (links .entry))) (length (now (guides .entry))) (now (sheet .entry))) (λ s. written s ≡ now (sheet .entry)) ⌝ }
+    ensures again { λ _. ⌜ made (decodedInto (now (links .entry)) (now (guides .entry)) (now (sheet .entry))) (λ s. written s ≡ now (sheet .entry)) ⌝ }
 {
     let survey = survey(sheet)?;
     if let Some(fault) = survey.fault(links.len(), guides.len()) {
