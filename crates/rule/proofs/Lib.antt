@@ -1,0 +1,3 @@
+pub mod Ladders
+pub mod Ordering
+pub mod Telling

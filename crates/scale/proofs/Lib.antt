@@ -1,0 +1,5 @@
+pub mod Held
+pub mod Lexical
+pub mod Pairing
+pub mod Sums
+pub mod Unions
