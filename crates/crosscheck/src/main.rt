@@ -14,13 +14,31 @@ use repertoire::Header;
 use repertoire::Link;
 use repertoire::LinkClone;
 use repertoire::Refusal;
+use rule::Count;
+use rule::CountRule;
+use rule::Ladder;
+use rule::LadderRule;
+use rule::VerdictDisplay;
+use scale::Grade;
+use scale::GradeSimple;
 use scale::PairClone;
+use scale::PairScale;
+use scale::PeakSimple;
+use scale::SimpleScale;
+use scale::TallySimple;
 use scale::WeaveCost;
+use scale::YarnSetSimple;
+use scale::harness_cost;
+use scale::held_set;
 use scale::weave_cost;
 use sheet::encode;
 use std::fs;
 use std::io;
 use std::str::from_utf8;
+
+mod comparing;
+
+use comparing::choice;
 
 // As many rows as the programs have.
 const LINK_ROWS: usize = 2114;
@@ -165,6 +183,36 @@ fn main(rt: LibcRuntime) -> io::Result<()> {
         );
         print!(rt, "{report}")?;
     }
+    let limits = weave_cost(5, 3, 40);
+    let first = weave_cost(4, 3, 45);
+    let second = weave_cost(6, 3, 25);
+    let sets = (held_set(limits, first), held_set(limits, second));
+    println!(rt, "Weave costs that hold {sets:?}")?;
+    println!(
+        rt,
+        "By the ladder {} is preferred",
+        choice(&Ladder, limits, first, second)
+    )?;
+    println!(
+        rt,
+        "By count {} is preferred",
+        choice(&Count, limits, first, second)
+    )?;
+    let limits = harness_cost(Grade::Medium, 60);
+    let first = harness_cost(Grade::Large, 10);
+    let second = harness_cost(Grade::Medium, 80);
+    let sets = (held_set(limits, first), held_set(limits, second));
+    println!(rt, "Harness costs that hold {sets:?}")?;
+    println!(
+        rt,
+        "By the ladder {} is preferred",
+        choice(&Ladder, limits, first, second)
+    )?;
+    println!(
+        rt,
+        "By count {} is preferred",
+        choice(&Count, limits, first, second)
+    )?;
     for length in [40, 41, 45] {
         let mut buffer = vec![in heap; b'-'; length]?;
         let header = Header {

@@ -72,7 +72,7 @@ pub fn write(buffer: &mut [u8], at: usize, entry: Entry) -> Result<usize, Refusa
 {
     let kind = entry.kind();
     let length = kind.body_length() + 3;
-    if at > buffer.len() || buffer.len() - at < length {
+    if buffer.len().saturating_sub(at) < length {
         return Err(Refusal::BufferTooShort);
     }
     let body = put_number(buffer, at, 2, u32::from(kind.code()));

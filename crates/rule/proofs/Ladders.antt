@@ -1,12 +1,12 @@
 -- The ladder, limit by limit from the lowest.
 use mathlib.Core.Path.{_≡_, refl, sym, ap, _∙_}
-use mathlib.Core.Bool.{Bool, true, false, cond}
+use mathlib.Core.Bool.{true, false}
 use mathlib.Core.Logic.{_⊎_, inl, inr, ⊎-elim}
 use Prim.Native.Nat.{ℕ, zero, suc, max, _+_, _*_, _/_, _%_, _^_, _<_, zero-le, suc-le-suc}
 use native.Mathlib.Nat.{div-one}
 use native.Mathlib.Numerals.{one-add, unary-clauses}
 use native.Mathlib.Omega.{arith}
-use lib.Bits.{bitOr, bitXor, xor-shr, xor-mod, xor-comm, xor-add-and, and-le-l, and-le-r}
+use lib.Bits.{bitOr, bitXor, xor-shr, xor-mod, xor-add-and, and-le-l, and-le-r}
 use lib.Count.{trailingZeros, under}
 use lib.Dec.{eqb}
 use Rattle.std.proofs.shelf.Bits.{shr-shr}

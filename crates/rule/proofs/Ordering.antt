@@ -1,10 +1,10 @@
 -- Preferred is an order, whatever the scale and the rule.
-use mathlib.Core.Path.{_≡_, refl, sym, ap, _∙_}
+use mathlib.Core.Path.{_≡_, refl}
 use mathlib.Core.Bool.{Bool, true, false, cond, not}
 use mathlib.Core.Logic.{_⊎_, inl, inr, ⊎-elim}
-use Prim.Native.Nat.{ℕ, _%_, _<_}
+use Prim.Native.Nat.{ℕ}
 use native.Mathlib.Omega.{arith}
-use Rattle.std.proofs.shelf.Tests.{both-ways, cases-bool, cond-true, cond-false}
+use Rattle.std.proofs.shelf.Tests.{both-ways, cases-bool}
 use Rattle.scale.specs.declared.scales.Scale.{Ghosts}
 use Rattle.scale.specs.Laws.{Laws}
 use Rattle.scale.specs.Shapes.{heldSet, HoldsAll}

@@ -1,6 +1,6 @@
 -- Two samples, checked by evaluation.
 use mathlib.Core.Path.{_≡_}
-use mathlib.Core.Bool.{Bool, true, false}
+use mathlib.Core.Bool.{true, false}
 use Prim.Native.Nat.{ℕ}
 use Rattle.scale.specs.declared.yarns.YarnSet.{YarnSet}
 use Rattle.scale.specs.Measures.{together, within, noMoreYarns}

@@ -10,6 +10,7 @@ mod verdicts;
 
 pub use rules::Rule;
 pub use verdicts::Verdict;
+pub use verdicts::VerdictDisplay;
 
 // The lowest-numbered limit held by just one set decides for that set.
 #[derive(Clone, Copy)]

@@ -1,6 +1,4 @@
 -- A pair of two lawful scales is lawful.
-use mathlib.Core.Path.{_≡_, refl}
-use mathlib.Core.Bool.{Bool, true, cond, _&&_}
 use Rattle.std.proofs.shelf.Tests.{and-parts, and-from}
 use Rattle.scale.specs.declared.scales.Scale.{Ghosts}
 use Rattle.scale.specs.Laws.{Laws}

@@ -2,7 +2,7 @@
 // harness pile.
 ghost use mathlib.Core.Path.{_≡_};
 ghost use Rattle.scale.specs.Shapes.{heldSet, HoldsAll};
-ghost use Rattle.scale.specs.Weave.{woven};
+ghost use Rattle.scale.specs.Weave.{woven, harnessed};
 ghost use Rattle.scale.specs.Yarns.{hasYarn};
 
 mod grade_scale;
@@ -59,6 +59,16 @@ pub fn weave_cost(float: u16, yarns: u32, picks: u32) -> WeaveCost
             first: YarnSet { bits: yarns },
             second: Tally { value: picks },
         },
+    }
+}
+
+// The harness cost of a grade and a number.
+pub fn harness_cost(work: Grade, hooks: u32) -> HarnessCost
+    ensures { λ r. ⌜ r ≡ harnessed work hooks ⌝ }
+{
+    Pair {
+        first: work,
+        second: Tally { value: hooks },
     }
 }
 

@@ -3,6 +3,9 @@ ghost use Rattle.scale.specs.Shapes.Shape.{simple};
 use super::Scale;
 use super::Simple;
 
+// A simple scale has one limit.
+const ONE: u8 = 1;
+
 pub impl<T: Simple> Scale for T as SimpleScale {
     ghost neutral = { T·Simple .neutral };
 
@@ -31,7 +34,7 @@ pub impl<T: Simple> Scale for T as SimpleScale {
     }
 
     fn parts() -> u8 {
-        1
+        ONE
     }
 
     fn held(self, limits: T) -> u8 {

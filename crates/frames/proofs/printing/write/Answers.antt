@@ -9,16 +9,11 @@ use Rattle.frames.specs.Frames.{code, bodyLength, entryKind, lineOf, over}
 use Rattle.frames.proofs.RoundTrip.{read-back}
 use Rattle.frames.proofs.Writing.{over-three, over-byte, length-digits, length-body, length-line}
 use Rattle.frames.proofs.printing.write.Needs as need
-use Rattle.frames.proofs.printing.write.Needs.{then-at-buffer·by·then-at-buffer, then-at-buffer·by·else-at-buffer·then-buffer-at}
 
-pub returns-then-at-buffer : need.returns-then-at-buffer
-returns-then-at-buffer c =
+pub returns-then-saturating-sub-length : need.returns-then-saturating-sub-length
+returns-then-saturating-sub-length c =
     let size : c .body-length-length .result ≡ bodyLength (entryKind (c .args .entry)) = c .body-length-length .ensures ∙ ap bodyLength (c .kind-kind .ensures) in
-    let short : length (c .args .buffer .now) < c .args .at + length (lineOf (c .args .entry)) =
-    elim (c .then-at-buffer .came) [
-      | then-at-buffer·by·then-at-buffer w ↦ omega (arith, w .if-at-buffer .taken, length-line (c .args .entry))
-      | then-at-buffer·by·else-at-buffer·then-buffer-at w ↦ omega (arith, w .if-buffer-at .taken, length-line (c .args .entry), size)
-    ] in
+    let short : length (c .args .buffer .now) < c .args .at + length (lineOf (c .args .entry)) = omega (arith, length-line (c .args .entry)) in
     record { value = sym (cond-false _ _ _ (lt-leb _ _ short)); after = sym (cond-false _ _ _ (lt-leb _ _ short)); back = tt }
 
 pub returns : need.returns

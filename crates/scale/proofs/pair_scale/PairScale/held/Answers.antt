@@ -1,6 +1,6 @@
 use mathlib.Core.Path.{_≡_, sym, ap, _∙_}
 use native.Mathlib.Omega.{arith}
-use Prim.Native.Nat.{_+_, _*_, _%_, _^_, _≤_}
+use Prim.Native.Nat.{_+_, _*_, _%_, _^_}
 use lib.Bits.{and-mask}
 use lib.ListN.{length}
 use Rattle.scale.specs.Shapes.{holds, bits}

@@ -1,7 +1,7 @@
-use mathlib.Core.Path.{_≡_, refl, ap}
+use mathlib.Core.Path.{refl, ap}
 use Prim.Native.Nat.{ℕ}
 use native.Mathlib.Omega.{arith}
-use lib.Bits.{bitOr, or-self, or-zero-r}
+use lib.Bits.{or-self, or-zero-r}
 use Rattle.std.proofs.shelf.Tests.{eqb-true, eq-eqb, le-leb}
 use Rattle.std.proofs.shelf.Ways.{tells}
 use Rattle.scale.specs.declared.yarns.YarnSet.{YarnSet}
