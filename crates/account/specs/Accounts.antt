@@ -1,13 +1,14 @@
 -- What the office is told of a sheet.
-use mathlib.Core.Bool.{cond}
+use mathlib.Core.Bool.{Bool, cond, not, _&&_}
 use mathlib.Core.List.{List}
 use Prim.Native.Nat.{ℕ}
-use lib.Dec.{ltb}
+use lib.Dec.{eqb, ltb}
 use lib.ListN.{length}
 use Rattle.std.specs.shelf.Lists.{countBy}
 use Rattle.std.specs.declared.result.Result.{Result}
 use Rattle.std.specs.declared.result.Result.the-variants.{Ok, Err}
 use Rattle.scale.specs.Weave.{WeaveCost}
+use Rattle.repertoire.specs.declared.headers.Header.{Header}
 use Rattle.repertoire.specs.declared.links.Link.{Link}
 use Rattle.repertoire.specs.Links.{leaves, reaches}
 use Rattle.sheet.specs.declared.faults.Fault.{Fault}
@@ -19,6 +20,10 @@ use Rattle.account.specs.declared.reports.Report.the-variants.{Accepted, Refus
 -- what a sheet holds, and how many of its links leave the start and reach the goal
 abbrev pub accounted : Sheet → Account
 accounted s = record { contents = contentsOf s; leaving = countBy (leaves (s .header .start)) (s .links); reaching = countBy (reaches (s .header .goal)) (s .links) }
+
+-- there is no such link, and one is needed, since start and goal differ
+abbrev pub lacking : ℕ → Header → Bool
+lacking count h = eqb count 0 && not (eqb (h .start) (h .goal))
 
 abbrev pub told : Result Sheet Fault → Report
 told (Ok s) = Accepted (accounted s)

@@ -69,13 +69,13 @@ impl fmt::Display for Account as AccountDisplay {
             f,
             "Links that leave motif {start}: {leaving}. Links that reach motif {goal}: {reaching}."
         )?;
-        if leaving == 0 && start != goal {
+        if self.cannot_begin() {
             writeln!(
                 f,
                 "No link leaves motif {start}, so no chain can begin there."
             )?;
         }
-        if reaching == 0 && start != goal {
+        if self.cannot_end() {
             writeln!(
                 f,
                 "No link reaches motif {goal}, so no chain can end there."

@@ -1,6 +1,6 @@
 // The account of a sheet in plain words: what it holds, or why it is refused.
 ghost use mathlib.Core.Path.{_≡_};
-ghost use Rattle.account.specs.Accounts.{reported, linksTold, guidesTold};
+ghost use Rattle.account.specs.Accounts.{lacking, reported, linksTold, guidesTold};
 use repertoire::Link;
 use repertoire::leaving;
 use repertoire::reaching;
@@ -13,6 +13,24 @@ mod reports;
 pub use display::ReportDisplay;
 pub use reports::Account;
 pub use reports::Report;
+
+impl Account {
+    // Whether no chain can begin, since no link leaves the motif on the loom and another is ordered.
+    fn cannot_begin(&self) -> bool
+        ensures { λ r. ⌜ r ≡ lacking (now (self .entry) .leaving) (now (self .entry) .contents .header) ⌝ }
+    {
+        let header = self.contents.header;
+        self.leaving == 0 && header.start != header.goal
+    }
+
+    // Whether no chain can end, since no link reaches the motif ordered and another is on the loom.
+    fn cannot_end(&self) -> bool
+        ensures { λ r. ⌜ r ≡ lacking (now (self .entry) .reaching) (now (self .entry) .contents .header) ⌝ }
+    {
+        let header = self.contents.header;
+        self.reaching == 0 && header.start != header.goal
+    }
+}
 
 // The longest sheet that is looked at, in bytes.
 pub const MOST_BYTES: usize = 65536;
