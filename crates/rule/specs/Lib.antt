@@ -1,5 +1,6 @@
+pub mod Ladders
 pub mod Preferred
+pub mod RuleLaws
 pub mod Rules
 pub mod Samples
 pub mod Soundness
-pub mod Ladders

@@ -3,11 +3,7 @@ ghost use Rattle.std.specs.Prelude.{◌≡◌, true};
 ghost use Rattle.rule.specs.Rules.{ladder, more};
 ghost use Rattle.rule.specs.Samples.{YarnSample, RuleSample};
 ghost use Rattle.rule.specs.Preferred.{preferred, Orders};
-ghost use Rattle.rule.specs.Ladders.{ladder_total, ladder_carries, ladder_contains};
-ghost use Rattle.std.proofs.Common.{arith};
-ghost use Rattle.std.proofs.lemmas.Bool.{le-ltb};
-ghost use Rattle.std.proofs.lemmas.Bool.Decides.{nat_tests};
-ghost use Rattle.scale.specs.Unions.{ones_within};
+ghost use Rattle.rule.specs.RuleLaws.{ladder_sound, more_sound};
 
 use scale::Scale;
 
@@ -28,12 +24,7 @@ pub struct Count;
 impl Rule for Ladder {
     ghost better = { λ _. ladder 8 };
 
-    ghost sound = { λ rule.
-        record {
-          total = λ a b p q. ladder_total 8 a b;
-          carries = λ a b c p q r h k. ladder_carries 8 a b c h k;
-          contains = λ a b p q h. ladder_contains 8 a b h;
-        } };
+    ghost sound = { λ _. ladder_sound };
 
     fn compare(&self, first: u8, second: u8) -> Verdict {
         let apart = first ^ second;
@@ -51,12 +42,7 @@ impl Rule for Ladder {
 impl Rule for Count {
     ghost better = { λ _. more };
 
-    ghost sound = { λ rule.
-        record {
-          total = λ a b p q. Prim.grind (arith, nat_tests);
-          carries = λ a b c p q r h k. Prim.grind (arith, nat_tests);
-          contains = λ a b p q h. le-ltb _ _ (ones_within b a h);
-        } };
+    ghost sound = { λ _. more_sound };
 
     fn compare(&self, first: u8, second: u8) -> Verdict {
         let first = first.count_ones();

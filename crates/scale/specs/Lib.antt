@@ -1,10 +1,11 @@
 pub mod Laws
+pub mod Lexical
 pub mod Measures
+pub mod PairLaws
 pub mod Pairs
 pub mod Shapes
-pub mod Weave
-pub mod Yarns
-pub mod Sums
-pub mod TallySimpleLemmas
+pub mod TallyLaws
 pub mod Unions
-pub mod YarnSetSimpleLemmas
+pub mod Weave
+pub mod YarnLaws
+pub mod Yarns

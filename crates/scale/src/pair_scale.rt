@@ -1,5 +1,6 @@
 // The pair of any two scales as a scale.
 ghost use Rattle.scale.specs.Pairs.{both_neutral, both_joined, both_no_worse, both_liked, both_shape};
+ghost use Rattle.scale.specs.PairLaws.{pair_fair};
 ghost use Rattle.std.specs.Prelude.{refl};
 
 use super::{Pair, Scale};
@@ -14,6 +15,8 @@ impl<A: Scale, B: Scale> Scale for Pair<A, B> {
     ghost liked = { both_liked A.Scale B.Scale };
 
     ghost shape = { both_shape A.Scale B.Scale };
+
+    ghost fair = { pair_fair (record { neutral = A.neutral; joined = A.joined; no_worse = A.no_worse; liked = A.liked; shape = A.shape }) (record { neutral = B.neutral; joined = B.joined; no_worse = B.no_worse; liked = B.liked; shape = B.shape }) A.fair B.fair };
 
     ghost shaped = { (A.Scale.no_worse, (B.Scale.no_worse, ((λ x y. refl), A.Scale.shaped, B.Scale.shaped))) };
 

@@ -4,11 +4,11 @@ use Rattle.frames.specs.Digits.{digit_value, value, value_from}
 use Rattle.frames.proofs.Powers.{digit_more, digit_room}
 use Rattle.frames.proofs.number.Goals as goal
 
-pub overflow-mul-number : goal.overflow-mul-number
-overflow-mul-number c = omega (arith, digit_room c.loop-digit.number 0 c.loop-digit.digit-index c.loop-digit.invariant.0 (omega arith) (omega arith))
+pub overflow_mul-number : goal.overflow_mul-number
+overflow_mul-number c = omega (arith, digit_room c.loop-digit.number 0 c.loop-digit.digit-index c.loop-digit.invariant.0 (omega arith) (omega arith))
 
-pub overflow-add-number : goal.overflow-add-number
-overflow-add-number c = omega (arith, digit_room c.loop-digit.number c.from.result c.loop-digit.digit-index c.loop-digit.invariant.0 (omega arith) (omega arith))
+pub overflow_add-number : goal.overflow_add-number
+overflow_add-number c = omega (arith, digit_room c.loop-digit.number c.from.result c.loop-digit.digit-index c.loop-digit.invariant.0 (omega arith) (omega arith))
 
 pub loop-digit-preserved : goal.loop-digit-preserved
 loop-digit-preserved c =

@@ -5,8 +5,8 @@ use Rattle.routes.proofs.route_length.Given as given
 use Rattle.routes.proofs.route_length.Goals as goal
 use Rattle.routes.proofs.route_length.Goals.{After-from-at}
 
-pub overflow-add-count : goal.overflow-add-count
-overflow-add-count g c = omega (arith, c.loop-at.invariant.1, short g.S.Scale c.args.trails.now c.args.place c.requires.lower c.args.place (omega arith))
+pub overflow_add-count : goal.overflow_add-count
+overflow_add-count g c = omega (arith, c.loop-at.invariant.1, short g.S.Scale c.args.trails.now c.args.place c.requires.lower c.args.place (omega arith))
 
 -- the walk goes on to the parent
 to_parent : (g : given.Over) (c : After-from-at g) → c.from-at.result ≡ (trail_at g.S.Scale c.args.trails.now c.loop-at.at).parent

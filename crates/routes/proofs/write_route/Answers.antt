@@ -8,8 +8,8 @@ use Rattle.routes.proofs.write_route.Goals.{After-index-trails-at, After-from-at
 pub loop-at-init : goal.loop-at-init
 loop-at-init g c = written_none g.S.Scale c.args.trails.now c.args.place c.requires.lower c.args.links.now c.args.count c.requires.counted c.requires.room
 
-pub offset-bounds-trails-at : goal.offset-bounds-trails-at
-offset-bounds-trails-at g c = omega (arith, c.loop-at.invariant.not_behind)
+pub offset_bounds-trails-at : goal.offset_bounds-trails-at
+offset_bounds-trails-at g c = omega (arith, c.loop-at.invariant.not_behind)
 
 pub bounds-trails-at : goal.bounds-trails-at
 bounds-trails-at g c = omega (arith, c.loop-at.invariant.not_behind)
@@ -20,11 +20,11 @@ within g c =
     written_within g.S.Scale c.args.trails.now c.args.place c.requires.lower c.args.links.now c.args.count c.requires.counted c.requires.room c.loop-at.links c.loop-at.at c.loop-at.next
     c.loop-at.invariant (omega arith)
 
-pub overflow-sub-next : goal.overflow-sub-next
-overflow-sub-next g c = (within g c).0
+pub overflow_sub-next : goal.overflow_sub-next
+overflow_sub-next g c = (within g c).0
 
-pub offset-bounds-links-next : goal.offset-bounds-links-next
-offset-bounds-links-next g c =
+pub offset_bounds-links-next : goal.offset_bounds-links-next
+offset_bounds-links-next g c =
     let w = within g c in
     let l : c.loop-at.next - 1 < length c.args.links.now = omega (arith, c.requires.room) in
     search rules

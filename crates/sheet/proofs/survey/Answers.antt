@@ -5,4 +5,4 @@ use Rattle.sheet.proofs.survey.Goals as goal
 
 pub returns : goal.returns
 unfolding lines
-returns c = sym (ap (λ s. surveyed c.loop-text.survey (lines s)) c.in-default.ensures) ∙ c.loop-text.invariant.0
+returns c = sym (ap (λ s. surveyed c.loop-text.survey (lines s)) c.in_default.ensures) ∙ c.loop-text.invariant.0

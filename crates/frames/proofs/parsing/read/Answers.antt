@@ -9,14 +9,14 @@ use Rattle.frames.proofs.parsing.read.Goals as goal
 
 pub entry-requires : goal.entry-requires
 entry-requires c =
-    let p = c.in-ok-frame.ensures in
-    whole c.in-ok-frame.frame _ _ p.2 (length_known_body c.args.text.now _ p.1)
+    let p = c.in_ok-frame.ensures in
+    whole c.in_ok-frame.frame _ _ p.2 (length_known_body c.args.text.now _ p.1)
 
 pub returns : goal.returns
 returns c =
     let l = c.args.text.now in
-    let p = c.in-ok-frame.ensures in
+    let p = c.in_ok-frame.ensures in
     let read : read_line l ≡ Ok c.entry.result =
     cond-true _ _ _ p.0 ∙ ap (λ o. ok_or (option_map (λ k. entry_at k (body_of l)) o) UnknownFrame) p.1
-    ∙ ap Ok (sym (said_is c.in-ok-frame.frame (body_of l) 1 p.2) ∙ sym c.entry.ensures) in
+    ∙ ap Ok (sym (said_is c.in_ok-frame.frame (body_of l) 1 p.2) ∙ sym c.entry.ensures) in
     record { value = sym read; again = read_again l c.entry.result read }

@@ -26,7 +26,7 @@ loop-made-preserved g c =
     let prefers = preferred s (g.R.Rule.better c.args.rule.now) c.args.limits in
     let step = c.advance-step.ensures in
     let t = tabled c.loop-made.trails c.loop-made.taken in
-    let more = gone_more s r prefers c.args.budget (tabled c.args.trails.now c.args.used) c.loop-made.made c.loop-made-test.true t c.loop-made.invariant.1 c.advance-step.result.outlook step.seen c.in-default.ensures in
+    let more = gone_more s r prefers c.args.budget (tabled c.args.trails.now c.args.used) c.loop-made.made c.loop-made-test.true t c.loop-made.invariant.1 c.advance-step.result.outlook step.seen c.in_default.ensures in
     let moved = tabled_eq step.row step.count in
     (step.within, subst (GoneOn s r prefers c.args.budget (tabled c.args.trails.now c.args.used) (c.loop-made.made + 1)) (sym moved) more)
 

@@ -13,8 +13,8 @@ returns-then-apart-eq0 c =
     let second = ladder_level 8 c.args.second c.args.first (sym same) in
     sym (λ i. verdict (first i) (second i))
 
-pub overflow-shr-first : goal.overflow-shr-first
-overflow-shr-first c = trailing_below 8 _ (omega arith) (xor_lt 8 c.args.first c.args.second (omega arith) (omega arith))
+pub overflow_shr-first : goal.overflow_shr-first
+overflow_shr-first c = trailing_below 8 _ (omega arith) (xor_lt 8 c.args.first c.args.second (omega arith) (omega arith))
 
 pub returns-then-first-apart-eq1 : goal.returns-then-first-apart-eq1
 returns-then-first-apart-eq1 c =

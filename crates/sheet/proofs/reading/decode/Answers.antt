@@ -7,11 +7,11 @@ use Rattle.sheet.proofs.RoundTrip.{again, accepted_rows}
 use Rattle.sheet.proofs.Walks.{unfaulted, unframed_decides, survey_decides}
 use Rattle.sheet.proofs.reading.decode.Goals as goal
 
-pub returns-in-err-survey : goal.returns-in-err-survey
-returns-in-err-survey c =
+pub returns-in_err-survey : goal.returns-in_err-survey
+returns-in_err-survey c =
     let m = length c.args.links.now in
     let n = length c.args.guides.now in
-    let d = unframed_decides m n c.args.sheet.now c.in-err-survey.field-0.0 (sym c.in-err-survey.ensures) in
+    let d = unframed_decides m n c.args.sheet.now c.in_err-survey.field-0.0 (sym c.in_err-survey.ensures) in
     let p = err_from_is_err_and c.from-residual.result c.from-residual.ensures.1 in
     record {
       value = p.1 ∙ ap Err p.2 ∙ sym (ap answered d);
@@ -26,7 +26,7 @@ unfolding unfaulted
 returns-in-Some c =
     let m = length c.args.links.now in
     let n = length c.args.guides.now in
-    let v = survey_decides m n c.args.sheet.now c.in-ok-survey.survey (sym c.in-ok-survey.ensures) in
+    let v = survey_decides m n c.args.sheet.now c.in_ok-survey.survey (sym c.in_ok-survey.ensures) in
     let d = v.1 ∙ ap (λ o. unfaulted o (Ok (gathered (entries_in (lines c.args.sheet.now))))) (sym c.fault.ensures ∙ c.in-Some.is) in
     record {
       value = sym (ap answered d);
@@ -42,8 +42,8 @@ returns c =
     let s = c.args.sheet.now in
     let m = length c.args.links.now in
     let n = length c.args.guides.now in
-    let v = survey_decides m n s c.in-ok-survey.survey (sym c.in-ok-survey.ensures) in
-    let d : decoded m n s ≡ Ok (gathered (entries_in (lines s))) = v.1 ∙ ap (λ o. unfaulted o (Ok (gathered (entries_in (lines s))))) (sym c.fault.ensures ∙ c.in-default.is) in
+    let v = survey_decides m n s c.in_ok-survey.survey (sym c.in_ok-survey.ensures) in
+    let d : decoded m n s ≡ Ok (gathered (entries_in (lines s))) = v.1 ∙ ap (λ o. unfaulted o (Ok (gathered (entries_in (lines s))))) (sym c.fault.ensures ∙ c.in_default.is) in
     let rows = accepted_rows m n s _ d in
     let f = c.fill.ensures ∙ filled_sheet c.args.links.now c.args.guides.now (lines s) v.0 rows.0 rows.1 in
     record {

@@ -5,4 +5,4 @@ use Rattle.sheet.proofs.reading.fill.Goals as goal
 
 pub returns : goal.returns
 unfolding lines
-returns c = sym (ap (λ s. filled (filling c.loop-text.contents c.loop-text.links c.loop-text.guides) (lines s)) c.in-default.ensures) ∙ c.loop-text.invariant.0
+returns c = sym (ap (λ s. filled (filling c.loop-text.contents c.loop-text.links c.loop-text.guides) (lines s)) c.in_default.ensures) ∙ c.loop-text.invariant.0

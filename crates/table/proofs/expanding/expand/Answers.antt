@@ -6,8 +6,8 @@ use Rattle.table.proofs.Expansions.{leaving_below, leaving_none, leaving_all, le
 use Rattle.table.proofs.expanding.expand.Goals as goal
 use Rattle.table.proofs.expanding.expand.Goals.{then-link-from, else-link-from}
 
-pub offset-bounds-trails-place-2 : goal.offset-bounds-trails-place-2
-offset-bounds-trails-place-2 g c = let lt : c.args.place < length c.args.trails.now = omega arith in search rules
+pub offset_bounds-trails-place-2 : goal.offset_bounds-trails-place-2
+offset_bounds-trails-place-2 g c = let lt : c.args.place < length c.args.trails.now = omega arith in search rules
 
 pub loop-k-init : goal.loop-k-init
 loop-k-init g c = (leaving_none g.S.Scale _ _ _ _, omega arith, omega arith)

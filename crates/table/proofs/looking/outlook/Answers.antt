@@ -5,9 +5,9 @@ use Rattle.table.proofs.Comparing.{read_at}
 use Rattle.table.proofs.Outlooks.{ahead_none, ahead_goal, ahead_roomy, ahead_cramped, ready_roomy}
 use Rattle.table.proofs.looking.outlook.Goals as goal
 
-pub returns-in-default : goal.returns-in-default
-returns-in-default g c = record {
-  value = ahead_none g.S.Scale (held_by c.args.repertoire) (preferred g.S.Scale (g.R.Rule.better c.args.rule.now) c.args.limits) c.args.trails.now c.args.used c.in-default.ensures.value;
+pub returns-in_default : goal.returns-in_default
+returns-in_default g c = record {
+  value = ahead_none g.S.Scale (held_by c.args.repertoire) (preferred g.S.Scale (g.R.Rule.better c.args.rule.now) c.args.limits) c.args.trails.now c.args.used c.in_default.ensures.value;
   ready = tt;
 }
 

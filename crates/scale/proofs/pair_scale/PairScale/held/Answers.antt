@@ -4,11 +4,11 @@ use Rattle.scale.specs.Shapes.{holds, bits}
 use Rattle.scale.proofs.Held.{bits-append, parts_few, parts_length, held_both, held_room}
 use Rattle.scale.proofs.pair_scale.PairScale.held.Goals as goal
 
-pub overflow-shl-behind : goal.overflow-shl-behind
-overflow-shl-behind g c = omega (arith, c.parts.ensures, parts_few g.A.Scale.shape)
+pub overflow_shl-behind : goal.overflow_shl-behind
+overflow_shl-behind g c = omega (arith, c.parts.ensures, parts_few g.A.Scale.shape)
 
-pub overflow-add-result : goal.overflow-add-result
-overflow-add-result g c =
+pub overflow_add-result : goal.overflow_add-result
+overflow_add-result g c =
     let p = c.parts.result in
     let y = bits (holds g.B.Scale.shape c.args.limits.second c.args.self.second) in
     let second : c.from-second.result * 2 ^ p ≡ (y % 256) * 2 ^ p = ap (λ k. k * 2 ^ p) (c.from-second.ensures ∙ c.held-2.ensures) in

@@ -3,7 +3,7 @@ use Rattle.std.proofs.lemmas.Bool.{and_parts, and_from}
 use Rattle.scale.specs.declared.scales.Scale.{Ghosts}
 use Rattle.scale.specs.Laws.{Laws}
 use Rattle.scale.specs.Pairs.{both_neutral, both_joined, both_no_worse, both_liked}
-use Rattle.scale.proofs.Lexical.{lex_total, second_decides, second_decided}
+use Rattle.scale.specs.Lexical.{lex_total, second_decides, second_decided}
 
 module _ {A B : Type 0} (a : Ghosts A) (b : Ghosts B) (la : Laws a.neutral a.joined a.no_worse a.liked) (lb : Laws b.neutral b.joined b.no_worse b.liked) where
   pub pair_fair : Laws (both_neutral a b) (both_joined a b) (both_no_worse a b) (both_liked a b)

@@ -1,7 +1,11 @@
--- A sum that stops at a top t is associative, at numbers past the top too.
-use Rattle.std.specs.Prelude.{◌≡◌, ℕ, ◌+◌, ◌<◌, ◌≤◌, min, max}
+-- Tallies keep the laws of a scale. A sum that stops at a top t is associative, at numbers past the top too.
+use Rattle.std.specs.Prelude.{◌≡◌, ℕ, ◌+◌, ◌-◌, ◌^◌, ◌<◌, ◌≤◌, min, max}
 use Rattle.std.proofs.Common.{sym, ap, ◌∙◌, ⊎_elim, arith}
 use Rattle.std.proofs.lemmas.Bool.{cases_lt}
+use Rattle.std.proofs.lemmas.Bool.Decides.{nat_tests}
+use Rattle.scale.specs.declared.tallies.Tally.{Tally}
+use Rattle.scale.specs.Laws.{Laws}
+use Rattle.scale.specs.Measures.{no_tally, summed, at_most_tally}
 
 module _ (t : ℕ) where
   abbrev pub stopped : ℕ → ℕ → ℕ
@@ -43,3 +47,22 @@ module _ (t : ℕ) where
     none hx hy hz =
         let u : min (min (x + y) t + z) t ≡ min (x + min (y + z) t) t = omega arith in
         ap (λ k. stopped k z) (up_to_top x y hx hy) ∙ up_to_top (min (x + y) t) z (omega arith) hz ∙ u ∙ sym (up_to_top x (min (y + z) t) hx (omega arith)) ∙ ap (stopped x) (sym (up_to_top y z hy hz))
+
+tally : ℕ → Tally
+tally n = record { value = n }
+
+pub tally_fair : Laws no_tally summed at_most_tally at_most_tally
+unfolding tally
+tally_fair = record {
+  assoc = λ x y z. ap tally (stopped_assoc (2 ^ 32 - 1) x.value y.value z.value);
+  left = λ x. ap tally (omega arith);
+  right = λ x. ap tally (omega arith);
+  reflexive = λ x. grind (arith, nat_tests);
+  transitive = λ x y z h k. grind (arith, nat_tests);
+  least = λ x. grind (arith, nat_tests);
+  before = λ x y z h. grind (arith, nat_tests);
+  behind = λ x y z h. grind (arith, nat_tests);
+  total = λ x y. grind (arith, nat_tests);
+  carries = λ x y z h k. grind (arith, nat_tests);
+  agrees = λ x y h. h;
+}
