@@ -3,37 +3,37 @@ use Rattle.std.proofs.Common.{◌≡◌, ℕ, zero, suc, ◌+◌, ◌*◌, ◌/�
 use Rattle.std.proofs.lemmas.List.{append_assoc, append-nil}
 use Rattle.std.proofs.lemmas.Bool.{and_parts, and_from}
 use Rattle.std.proofs.lemmas.Bool.Decides.{nat_tests}
-use Rattle.frames.specs.Digits.{digit_of_is_digit, digit_value, digit_of, all_digits, value, value_from, digits}
+use Rattle.frames.specs.Digits.{is_digit, digit_value, digit_of, all_digits, value, value_from, digits}
 
 -- ---- one digit
 
 pub digit_back : (r : ℕ) → r < 16 → digit_value (digit_of r) ≡ r
 digit_back r h = grind (arith, nat_tests)
 
-pub digit_again : (d : ℕ) → digit_of_is_digit d ≡ true → digit_of (digit_value d) ≡ d
+pub digit_again : (d : ℕ) → is_digit d ≡ true → digit_of (digit_value d) ≡ d
 digit_again d h = grind (arith, nat_tests)
 
 pub digit_below : (d : ℕ) → digit_value d < 16
 digit_below d = grind (arith, nat_tests)
 
-pub digit_of_is_digit : (r : ℕ) → r < 16 → digit_of_is_digit (digit_of r) ≡ true
+pub digit_of_is_digit : (r : ℕ) → r < 16 → is_digit (digit_of r) ≡ true
 digit_of_is_digit r h = grind (arith, nat_tests)
 
 -- ---- all digits
 
 pub all_digits-append : (xs ys : List ℕ) → all_digits xs ≡ true → all_digits ys ≡ true → all_digits (xs ++ ys) ≡ true
 all_digits-append [] ys h k = k
-all_digits-append (x ∷ xs) ys h k = let p = and_parts (digit_of_is_digit x) (all_digits xs) h in and_from _ _ p.0 (all_digits-append xs ys p.1 k)
+all_digits-append (x ∷ xs) ys h k = let p = and_parts (is_digit x) (all_digits xs) h in and_from _ _ p.0 (all_digits-append xs ys p.1 k)
 
 pub all_digits-take : (n : ℕ) (xs : List ℕ) → all_digits xs ≡ true → all_digits (take n xs) ≡ true
 all_digits-take zero xs h = refl
 all_digits-take (suc n) [] h = refl
-all_digits-take (suc n) (x ∷ xs) h = let p = and_parts (digit_of_is_digit x) (all_digits xs) h in and_from _ _ p.0 (all_digits-take n xs p.1)
+all_digits-take (suc n) (x ∷ xs) h = let p = and_parts (is_digit x) (all_digits xs) h in and_from _ _ p.0 (all_digits-take n xs p.1)
 
 pub all_digits-drop : (n : ℕ) (xs : List ℕ) → all_digits xs ≡ true → all_digits (drop n xs) ≡ true
 all_digits-drop zero xs h = h
 all_digits-drop (suc n) [] h = refl
-all_digits-drop (suc n) (x ∷ xs) h = all_digits-drop n xs (and_parts (digit_of_is_digit x) (all_digits xs) h).1
+all_digits-drop (suc n) (x ∷ xs) h = all_digits-drop n xs (and_parts (is_digit x) (all_digits xs) h).1
 
 pub all_digits-digits : (w n : ℕ) → all_digits (digits w n) ≡ true
 unfolding digits
@@ -62,7 +62,7 @@ digits-value_from : (w n : ℕ) (ds : List ℕ) → all_digits ds ≡ true → d
 unfolding digits
 digits-value_from w n [] h = ap (λ k. digits k n) (add-zero w) ∙ sym (append-nil (digits w n))
 digits-value_from w n (d ∷ ds) h =
-    let p = and_parts (digit_of_is_digit d) (all_digits ds) h in
+    let p = and_parts (is_digit d) (all_digits ds) h in
     let m = n * 16 + digit_value d in
     let below = digit_below d in
     let high : m / 16 ≡ n = omega arith in

@@ -14,9 +14,9 @@ use Rattle.sheet.specs.Order.{may_follow, may_end}
 use Rattle.sheet.specs.Sheets.{Sheet, entries_of, links_in, guides_in, header_in, limits_in, gathered}
 
 -- the entries that may stand behind one of the last kind
-abbrev pub entries_in_order : Option Kind → List Entry → Bool
-entries_in_order last [] = may_end last
-entries_in_order last (e ∷ es) = may_follow last (entry_kind e) && entries_in_order (Some (entry_kind e)) es
+abbrev pub in_order : Option Kind → List Entry → Bool
+in_order last [] = may_end last
+in_order last (e ∷ es) = may_follow last (entry_kind e) && in_order (Some (entry_kind e)) es
 
 -- ---- in order, so the entries of a sheet
 
@@ -32,11 +32,11 @@ pub record Linked (es : List Entry) : Type 0 where
   pub limits : WeaveCost
   pub is : es ≡ map entry.Link links ++ (map entry.Guide guides ++ (entry.Limits limits ∷ (entry.End ∷ [])))
 
-after_end : (es : List Entry) → entries_in_order (Some kind.End) es ≡ true → es ≡ []
+after_end : (es : List Entry) → in_order (Some kind.End) es ≡ true → es ≡ []
 after_end [] h = refl
 after_end (e ∷ es) h = absurd (both_ways false refl h)
 
-after_limits : (es : List Entry) → entries_in_order (Some kind.Limits) es ≡ true → es ≡ entry.End ∷ []
+after_limits : (es : List Entry) → in_order (Some kind.Limits) es ≡ true → es ≡ entry.End ∷ []
 after_limits [] h = absurd (both_ways false refl h)
 after_limits (entry.Header x ∷ es) h = absurd (both_ways false refl h)
 after_limits (entry.Link x ∷ es) h = absurd (both_ways false refl h)
@@ -44,7 +44,7 @@ after_limits (entry.Guide x ∷ es) h = absurd (both_ways false refl h)
 after_limits (entry.Limits x ∷ es) h = absurd (both_ways false refl h)
 after_limits (entry.End ∷ es) h = ap (λ r. entry.End ∷ r) (after_end es h)
 
-after_guides : (es : List Entry) → entries_in_order (Some kind.Guide) es ≡ true → Guided es
+after_guides : (es : List Entry) → in_order (Some kind.Guide) es ≡ true → Guided es
 after_guides [] h = absurd (both_ways false refl h)
 after_guides (entry.Header x ∷ es) h = absurd (both_ways false refl h)
 after_guides (entry.Link x ∷ es) h = absurd (both_ways false refl h)
@@ -52,7 +52,7 @@ after_guides (entry.Guide x ∷ es) h = let g = after_guides es h in record { gu
 after_guides (entry.Limits x ∷ es) h = record { guides = []; limits = x; is = ap (λ r. entry.Limits x ∷ r) (after_limits es h) }
 after_guides (entry.End ∷ es) h = absurd (both_ways false refl h)
 
-after_links : (es : List Entry) → entries_in_order (Some kind.Link) es ≡ true → Linked es
+after_links : (es : List Entry) → in_order (Some kind.Link) es ≡ true → Linked es
 after_links [] h = absurd (both_ways false refl h)
 after_links (entry.Header x ∷ es) h = absurd (both_ways false refl h)
 after_links (entry.Link x ∷ es) h = let g = after_links es h in record { links = x ∷ g.links; guides = g.guides; limits = g.limits; is = ap (λ r. entry.Link x ∷ r) g.is }
@@ -61,7 +61,7 @@ after_links (entry.Limits x ∷ es) h = record { links = []; guides = []; limits
 after_links (entry.End ∷ es) h = absurd (both_ways false refl h)
 
 -- behind the header may come what may come behind a link
-header_like_link : (es : List Entry) → entries_in_order (Some kind.Header) es ≡ entries_in_order (Some kind.Link) es
+header_like_link : (es : List Entry) → in_order (Some kind.Header) es ≡ in_order (Some kind.Link) es
 header_like_link [] = refl
 header_like_link (e ∷ es) = refl
 
@@ -113,7 +113,7 @@ gathered_back s =
     λ i. record { header = header i; links = links i; guides = guides i; limits = limits i }
 
 -- entries in order are those of the sheet gathered from them
-pub arranged : (es : List Entry) → entries_in_order None es ≡ true → entries_of (gathered es) ≡ es
+pub arranged : (es : List Entry) → in_order None es ≡ true → entries_of (gathered es) ≡ es
 arranged [] h = absurd (both_ways false refl h)
 arranged (entry.Header x ∷ es) h =
     let g = after_links es (sym (header_like_link es) ∙ h) in
@@ -127,16 +127,16 @@ arranged (entry.End ∷ es) h = absurd (both_ways false refl h)
 
 -- ---- the entries of a sheet are in order
 
-order_guides : (gs : List WeaveCost) (m : WeaveCost) → entries_in_order (Some kind.Guide) (map entry.Guide gs ++ (entry.Limits m ∷ (entry.End ∷ []))) ≡ true
+order_guides : (gs : List WeaveCost) (m : WeaveCost) → in_order (Some kind.Guide) (map entry.Guide gs ++ (entry.Limits m ∷ (entry.End ∷ []))) ≡ true
 order_guides [] m = refl
 order_guides (g ∷ gs) m = order_guides gs m
 
-order_links : (ls : List (Link WeaveCost)) (gs : List WeaveCost) (m : WeaveCost) → entries_in_order (Some kind.Link) (map entry.Link ls ++ (map entry.Guide gs ++ (entry.Limits m ∷ (entry.End ∷ [])))) ≡ true
+order_links : (ls : List (Link WeaveCost)) (gs : List WeaveCost) (m : WeaveCost) → in_order (Some kind.Link) (map entry.Link ls ++ (map entry.Guide gs ++ (entry.Limits m ∷ (entry.End ∷ [])))) ≡ true
 order_links [] [] m = refl
 order_links [] (g ∷ gs) m = order_guides gs m
 order_links (l ∷ ls) gs m = order_links ls gs m
 
-pub entries_in_order : (s : Sheet) → entries_in_order None (entries_of s) ≡ true
+pub entries_in_order : (s : Sheet) → in_order None (entries_of s) ≡ true
 entries_in_order s =
     let rest = map entry.Link s.links ++ (map entry.Guide s.guides ++ (entry.Limits s.limits ∷ (entry.End ∷ []))) in
     header_like_link rest ∙ order_links s.links s.guides s.limits

@@ -14,7 +14,7 @@ use Rattle.frames.proofs.RoundTrip.{kind_again, line_again, line_framed, line_ki
 use Rattle.sheet.specs.declared.faults.Fault.{Fault}
 use Rattle.sheet.specs.Order.{may_follow, may_end, comes, behind, first_not, misplaced}
 use Rattle.sheet.specs.Sheets.{Sheet, entries_of, written, entries_in, links_in, guides_in, gathered, rowless, unless, decoded}
-use Rattle.sheet.proofs.Arranged.{entries_in_order, arranged, gathered_back, entries_in_order}
+use Rattle.sheet.proofs.Arranged.{in_order, arranged, gathered_back, entries_in_order}
 
 -- ---- accepted, so written again
 
@@ -29,7 +29,7 @@ lines_again n (l ∷ ls) f k = go (is_frame l) refl (kind_of l) refl f k (lines_
   go true e None d f k rest = let z : ◌≡◌ {A = ℕ} 0 1 = cc in absurd (omega arith)
   go false e o d f k rest = let z : ◌≡◌ {A = ℕ} 0 1 = cc in absurd (omega arith)
 
-order_again : (n : ℕ) (last : Option Kind) (ls : List (List ℕ)) → first_not n (λ l. is_some (kind_of l)) ls ≡ None → misplaced n last ls ≡ None → entries_in_order last (entries_in ls) ≡ true
+order_again : (n : ℕ) (last : Option Kind) (ls : List (List ℕ)) → first_not n (λ l. is_some (kind_of l)) ls ≡ None → misplaced n last ls ≡ None → in_order last (entries_in ls) ≡ true
 order_again n last [] k m = go (may_end last) m where
   go : (x : Bool) → cond x None (Some n) ≡ None → x ≡ true
   go true e = refl
@@ -40,12 +40,12 @@ order_again n last (l ∷ ls) k m = go (kind_of l) k m (λ j. order_again (n + 1
   may false b rest then e = let z : ◌≡◌ {A = ℕ} 0 1 = cc in absurd (omega arith)
 
   go : (o : Option Kind) → cond (is_some o) (first_not (n + 1) (λ r. is_some (kind_of r)) ls) (Some n) ≡ None → cond (comes last o) (misplaced (n + 1) (behind last o) ls) (Some n) ≡ None
-      → ((j : Kind) → first_not (n + 1) (λ r. is_some (kind_of r)) ls ≡ None → misplaced (n + 1) (Some j) ls ≡ None → entries_in_order (Some j) (entries_in ls) ≡ true)
-      → entries_in_order last (option_to_list (option_map (λ j. entry_at j (body_of l)) o) ++ entries_in ls) ≡ true
+      → ((j : Kind) → first_not (n + 1) (λ r. is_some (kind_of r)) ls ≡ None → misplaced (n + 1) (Some j) ls ≡ None → in_order (Some j) (entries_in ls) ≡ true)
+      → in_order last (option_to_list (option_map (λ j. entry_at j (body_of l)) o) ++ entries_in ls) ≡ true
   go None k m rest = let z : ◌≡◌ {A = ℕ} 0 1 = cc in absurd (omega arith)
   go (Some j) k m rest =
-      (λ i. may_follow last (kind_again j (body_of l) i) && entries_in_order (Some (kind_again j (body_of l) i)) (entries_in ls))
-      ∙ may (may_follow last j) (entries_in_order (Some j) (entries_in ls)) (misplaced (n + 1) (Some j) ls) (rest j k) m
+      (λ i. may_follow last (kind_again j (body_of l) i) && in_order (Some (kind_again j (body_of l) i)) (entries_in ls))
+      ∙ may (may_follow last j) (in_order (Some j) (entries_in ls)) (misplaced (n + 1) (Some j) ls) (rest j k) m
 
 unless_ok : {A : Type 0} (o : Option ℕ) (why : Refusal) (r : Result A Fault) (x : A) → unless o why r ≡ Ok x → (o ≡ None) × (r ≡ Ok x)
 unless_ok None why r x e = (refl, e)
@@ -107,10 +107,10 @@ all_known : (n : ℕ) (es : List Entry) → first_not n (λ l. is_some (kind_of 
 all_known n [] = refl
 all_known n (e ∷ es) = cond-true (is_some (kind_of (line_of e))) _ _ (ap is_some (line_kind e)) ∙ all_known (n + 1) es
 
-order_back : (n : ℕ) (last : Option Kind) (es : List Entry) → entries_in_order last es ≡ true → misplaced n last (map line_of es) ≡ None
+order_back : (n : ℕ) (last : Option Kind) (es : List Entry) → in_order last es ≡ true → misplaced n last (map line_of es) ≡ None
 order_back n last [] h = cond-true (may_end last) _ _ h
 order_back n last (e ∷ es) h =
-    let p = and_parts (may_follow last (entry_kind e)) (entries_in_order (Some (entry_kind e)) es) h in
+    let p = and_parts (may_follow last (entry_kind e)) (in_order (Some (entry_kind e)) es) h in
     (λ i. cond (comes last (line_kind e i)) (misplaced (n + 1) (behind last (line_kind e i)) (map line_of es)) (Some n))
     ∙ cond-true (may_follow last (entry_kind e)) _ _ p.0 ∙ order_back (n + 1) (Some (entry_kind e)) es p.1
 

@@ -12,7 +12,7 @@ use Rattle.sheet.specs.declared.faults.Fault.{Fault}
 use Rattle.sheet.specs.declared.surveys.Survey.{Survey}
 use Rattle.sheet.specs.Order.{may_end, comes, first_not, misplaced}
 use Rattle.sheet.specs.Sheets.{Sheet, entries_in, links_in, guides_in, gathered, rowless, unless, decoded}
-use Rattle.sheet.specs.Steps.{noted, one_link_more, one_guide, begun, with, surveyed, found, fault_of}
+use Rattle.sheet.specs.Steps.{noted, one_link, one_guide, begun, with, surveyed, found, fault_of}
 
 -- the survey of frames that are all frames
 walked : Survey → List (List ℕ) → Survey
@@ -50,7 +50,7 @@ unfolding walked
 walked_misplaced v [] = refl
 walked_misplaced v (l ∷ ls) = earlier_more v.misplaced (comes v.last (kind_of l)) v.line _ ∙ walked_misplaced (with v (kind_of l)) ls
 
-one_link_more : (l : List ℕ) (es : List Entry) (o : Option Kind) → length (links_in (option_to_list (option_map (λ k. entry_at k (body_of l)) o) ++ es)) ≡ one_link_more o + length (links_in es)
+one_link_more : (l : List ℕ) (es : List Entry) (o : Option Kind) → length (links_in (option_to_list (option_map (λ k. entry_at k (body_of l)) o) ++ es)) ≡ one_link o + length (links_in es)
 one_link_more l es None = omega arith
 one_link_more l es (Some kind.Header) = omega arith
 one_link_more l es (Some kind.Link) = omega arith

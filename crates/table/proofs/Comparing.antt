@@ -6,12 +6,12 @@ use Rattle.std.proofs.lemmas.Bool.{cases_eq, or_from, or_left, or_right}
 use Rattle.scale.specs.declared.scales.Scale.{Ghosts}
 use Rattle.trails.specs.declared.states.State.TheVariants.{Dropped}
 use Rattle.trails.specs.declared.trails.Trail.{Trail}
-use Rattle.trails.specs.Below.{some_below_at}
+use Rattle.trails.specs.Below.{some_below}
 use Rattle.trails.specs.Tables.{tabled, trail_at, restated}
 use Rattle.trails.specs.Expanding.{withstands, yields, beside, withstood, dropped}
 
 -- a number below n that passes is one of some
-some_below_at : (p : ℕ → Bool) (i n : ℕ) → i < n → p i ≡ true → some_below_at n p ≡ true
+some_below_at : (p : ℕ → Bool) (i n : ℕ) → i < n → p i ≡ true → some_below n p ≡ true
 some_below_at p i zero lt hit = absurd (omega arith)
 some_below_at p i (suc n) lt hit = elim (cases_eq i n) [
   | inl e ↦ or_left (p n) _ (rw e at hit)
@@ -34,7 +34,7 @@ module _ {S : Type 0} (s : Ghosts S) (new : Trail S) (trails : List (Trail S)) (
   pub withstood_not_yet : false ≡ withstood s new (tabled trails i) → false ≡ withstands s new t → false ≡ withstood s new (tabled trails (i + 1))
   unfolding withstood
   withstood_not_yet none miss =
-      sym (or_from _ _ (ap (withstands s new) (sym (read_at s trails i t lt read)) ∙ sym miss) (sym none)) ∙ ap (λ n. some_below_at n (λ k. withstands s new (trail_at s trails k))) (sym (add-one i))
+      sym (or_from _ _ (ap (withstands s new) (sym (read_at s trails i t lt read)) ∙ sym miss) (sym none)) ∙ ap (λ n. some_below n (λ k. withstands s new (trail_at s trails k))) (sym (add-one i))
 
 -- among no trails none withstands it
 pub withstood_none : {S : Type 0} (s : Ghosts S) (new : Trail S) (trails : List (Trail S)) → false ≡ withstood s new (tabled trails 0)
