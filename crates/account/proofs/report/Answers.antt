@@ -13,7 +13,7 @@ returns-in-Ok c =
     let front : k.links - 0 ≡ k.links = omega arith in
     let leaving = c.leaving.ensures ∙ ap (λ n. count_by (leaves k.header.start) (take n rows)) front in
     let reaching = c.reaching.ensures ∙ ap (λ n. count_by (reaches k.header.goal) (take n rows)) front in
-    let short = le-ltb _ _ c.if-sheet-gt-MOST-BYTES.false in
+    let short = le-ltb _ _ c.if-sheet-gt-MOST_BYTES.false in
     record {
       value = told_ok d c.args.links.now rows k _ _ c.in-Ok.ensures.value c.decode.ensures.links leaving reaching ∙ sym (cond-false _ _ _ short);
       links = c.decode.ensures.links ∙ sym (cond-false _ _ _ short);

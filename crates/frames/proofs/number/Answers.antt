@@ -15,7 +15,7 @@ loop-digit-preserved c =
     let xs = c.args.digits.now in
     let i = c.loop-digit.digit-index in
     let n = c.loop-digit.number in
-    let d : c.from.result ≡ digit_value (get_or xs i 0) = c.from.ensures ∙ c.digit-value.ensures.value in
+    let d : c.from.result ≡ digit_value (get_or xs i 0) = c.from.ensures ∙ c.digit_value.ensures.value in
     let step : value_from n (drop i xs) ≡ value_from (n * 16 + digit_value (get_or xs i 0)) (drop (i + 1) xs) = at_drop_more (value_from n) xs i 0 c.loop-digit-test.true in (
       digit_more n c.from.result i c.loop-digit.invariant.0 (omega arith),
       ap (λ x. value_from (n * 16 + x) (drop (i + 1) xs)) d ∙ sym step ∙ c.loop-digit.invariant.1,

@@ -16,7 +16,7 @@ loop-i-preserved c =
     let n = c.loop-i.rest in
     let i : c.loop-i.i ≡ suc j = omega arith in
     let room : at + j < length b = omega arith in
-    ap (λ d. over (set b (at + j) d) at (digits j (n / 16))) c.digit-of.ensures ∙ over_push b (digits j (n / 16)) at j (digit_of (n % 16)) (length_digits j (n / 16)) room
+    ap (λ d. over (set b (at + j) d) at (digits j (n / 16))) c.digit_of.ensures ∙ over_push b (digits j (n / 16)) at j (digit_of (n % 16)) (length_digits j (n / 16)) room
     ∙ ap (λ k. over b at (digits k n)) (sym i) ∙ c.loop-i.invariant
 
 pub returns : goal.returns

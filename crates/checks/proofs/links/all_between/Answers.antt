@@ -4,13 +4,13 @@ use Rattle.trails.specs.Repertoires.{held_by, link_at}
 use Rattle.checks.proofs.Rows.{all_done, row_more, row_fails}
 use Rattle.checks.proofs.links.all_between.Goals as goal
 
-pub returns-then-not-are-motifs : goal.returns-then-not-are-motifs
-returns-then-not-are-motifs g c =
-    sym (row_fails (is_between_motifs g.S.Scale (held_by c.args.repertoire)) _ _ c.loop-link.link-index c.link-item.result c.loop-link-test.true c.link-item.is (sym c.are-motifs.ensures ∙ c.if-not-are-motifs.true))
+pub returns-then-not-are_motifs : goal.returns-then-not-are_motifs
+returns-then-not-are_motifs g c =
+    sym (row_fails (is_between_motifs g.S.Scale (held_by c.args.repertoire)) _ _ c.loop-link.link-index c.link-item.result c.loop-link-test.true c.link-item.is (sym c.are_motifs.ensures ∙ c.if-not-are_motifs.true))
 
 pub loop-link-preserved : goal.loop-link-preserved
 loop-link-preserved g c =
-    row_more (is_between_motifs g.S.Scale (held_by c.args.repertoire)) _ _ c.loop-link.link-index c.link-item.result c.loop-link-test.true c.link-item.is c.loop-link.invariant (sym c.are-motifs.ensures ∙ c.if-not-are-motifs.false)
+    row_more (is_between_motifs g.S.Scale (held_by c.args.repertoire)) _ _ c.loop-link.link-index c.link-item.result c.loop-link-test.true c.link-item.is c.loop-link.invariant (sym c.are_motifs.ensures ∙ c.if-not-are_motifs.false)
 
 pub returns : goal.returns
 returns g c =

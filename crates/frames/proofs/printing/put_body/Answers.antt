@@ -8,13 +8,13 @@ pub returns-in-Header : goal.returns-in-Header
 returns-in-Header c =
     let b = c.args.buffer.now in
     let room : body_length (entry_kind c.args.entry) ≡ 12 = ap (λ e. body_length (entry_kind e)) c.in-Header.is in
-    let motifs = c.put-number-start.ensures.after ∙ ap (λ x. over b c.args.at (digits 4 x)) c.from.ensures in
-    let start = c.put-number-goal.ensures.after ∙ ap (λ x. over c.put-number-start.new.buffer c.put-number-start.result (digits 4 x)) c.from-in-Header.ensures in
-    let goal = c.put-number.ensures.after ∙ ap (λ x. over c.put-number-goal.new.buffer c.put-number-goal.result (digits 4 x)) c.from-in-Header-2.ensures in
+    let motifs = c.put_number-start.ensures.after ∙ ap (λ x. over b c.args.at (digits 4 x)) c.from.ensures in
+    let start = c.put_number-goal.ensures.after ∙ ap (λ x. over c.put_number-start.new.buffer c.put_number-start.result (digits 4 x)) c.from-in-Header.ensures in
+    let goal = c.put_number.ensures.after ∙ ap (λ x. over c.put_number-goal.new.buffer c.put_number-goal.result (digits 4 x)) c.from-in-Header-2.ensures in
     record {
       value = omega (arith, room);
       after =
-          over_three b _ _ _ _ _ _ _ _ _ 4 4 (length_digits 4 _) (length_digits 4 _) c.put-number-start.ensures.value c.put-number-goal.ensures.value (omega (arith, room)) motifs start goal
+          over_three b _ _ _ _ _ _ _ _ _ 4 4 (length_digits 4 _) (length_digits 4 _) c.put_number-start.ensures.value c.put_number-goal.ensures.value (omega (arith, room)) motifs start goal
           ∙ ap (λ e. over b c.args.at (body e)) (sym c.in-Header.is);
       fits = subst EntryFits (sym c.in-Header.is) (omega arith, omega arith, omega arith);
     }
@@ -23,14 +23,14 @@ pub returns-in-Link : goal.returns-in-Link
 returns-in-Link c =
     let b = c.args.buffer.now in
     let room : body_length (entry_kind c.args.entry) ≡ 28 = ap (λ e. body_length (entry_kind e)) c.in-Link.is in
-    let from = c.put-number-to.ensures.after ∙ ap (λ x. over b c.args.at (digits 4 x)) c.from-in-Link.ensures in
-    let to = c.put-number-cost.ensures.after ∙ ap (λ x. over c.put-number-to.new.buffer c.put-number-to.result (digits 4 x)) c.from-in-Link-2.ensures in
+    let from = c.put_number-to.ensures.after ∙ ap (λ x. over b c.args.at (digits 4 x)) c.from-in-Link.ensures in
+    let to = c.put_number-cost.ensures.after ∙ ap (λ x. over c.put_number-to.new.buffer c.put_number-to.result (digits 4 x)) c.from-in-Link-2.ensures in
     record {
       value = omega (arith, room);
       after =
-          over_three b _ _ _ _ _ _ _ _ _ 4 4 (length_digits 4 _) (length_digits 4 _) c.put-number-to.ensures.value c.put-number-cost.ensures.value (omega (arith, room)) from to c.put-cost.ensures.after
+          over_three b _ _ _ _ _ _ _ _ _ 4 4 (length_digits 4 _) (length_digits 4 _) c.put_number-to.ensures.value c.put_number-cost.ensures.value (omega (arith, room)) from to c.put_cost.ensures.after
           ∙ ap (λ e. over b c.args.at (body e)) (sym c.in-Link.is);
-      fits = subst EntryFits (sym c.in-Link.is) (omega arith, omega arith, c.put-cost.ensures.fits);
+      fits = subst EntryFits (sym c.in-Link.is) (omega arith, omega arith, c.put_cost.ensures.fits);
     }
 
 pub returns-in-End : goal.returns-in-End

@@ -4,7 +4,7 @@ use Rattle.trails.specs.Repertoires.{held_by}
 use Rattle.table.specs.Chosen.{place_of}
 use Rattle.table.proofs.Bests.{best_none, best_open, best_passed, best_is, best_within}
 use Rattle.table.proofs.choosing.best_open.Goals as goal
-use Rattle.table.proofs.choosing.best_open.Goals.{then-is-open, else-is-open}
+use Rattle.table.proofs.choosing.best_open.Goals.{then-is_open, else-is_open}
 
 pub loop-i-init : goal.loop-i-init
 loop-i-init g c = best_none g.S.Scale _ _ _ _
@@ -12,11 +12,11 @@ loop-i-init g c = best_none g.S.Scale _ _ _ _
 pub loop-i-preserved : goal.loop-i-preserved
 loop-i-preserved g c =
     let lt : c.loop-i.i < length c.args.trails.now = omega arith in
-    elim c.if-is-open.branch [
-      | then-is-open w ↦
+    elim c.if-is_open.branch [
+      | then-is_open w ↦
           w.best-is
-          ∙ best_open g.S.Scale _ _ _ _ _ _ lt c.index-trails-i.is _ c.loop-i.invariant w.if-is-open.ensures _ w.estimate-of.ensures _ w.better-of-best.ensures
-      | else-is-open w ↦ w.best-is ∙ best_passed g.S.Scale _ _ _ _ _ _ lt c.index-trails-i.is _ c.loop-i.invariant w.if-is-open.ensures
+          ∙ best_open g.S.Scale _ _ _ _ _ _ lt c.index-trails-i.is _ c.loop-i.invariant w.if-is_open.ensures _ w.estimate_of.ensures _ w.better_of-best.ensures
+      | else-is_open w ↦ w.best-is ∙ best_passed g.S.Scale _ _ _ _ _ _ lt c.index-trails-i.is _ c.loop-i.invariant w.if-is_open.ensures
     ]
 
 pub returns-in-None : goal.returns-in-None

@@ -12,8 +12,8 @@ offset_bounds-trails-place-2 g c = let lt : c.args.place < length c.args.trails.
 pub loop-k-init : goal.loop-k-init
 loop-k-init g c = (leaving_none g.S.Scale _ _ _ _, omega arith, omega arith)
 
-pub try-trail-n-requires : goal.try-trail-n-requires
-try-trail-n-requires g c =
+pub try_trail-n-requires : goal.try_trail-n-requires
+try_trail-n-requires g c =
     let r = held_by c.args.repertoire in
     let lt : c.args.place < length c.args.trails.now = omega arith in
     let from = read_at g.S.Scale c.args.trails.now _ _ lt c.index-trails-place.is in
@@ -30,9 +30,9 @@ loop-k-preserved g c =
     let motif = c.index-trails-place.result.motif in
     elim c.if-link-from.branch [
       | then-link-from w ↦ (
-        ap₂ tabled w.trails-is w.n-is ∙ tried_link s r _ _ lt read _ _ _ _ c.loop-k.invariant.0 w.if-link-from.true _ w.join.ensures _ w.try-trail-n.ensures.value,
-        omega (arith, w.try-trail-n.ensures.grown, w.n-is),
-        omega (arith, leaving_more s r _ _ lt read motif w.if-link-from.true, w.try-trail-n.ensures.within, w.n-is),
+        ap₂ tabled w.trails-is w.n-is ∙ tried_link s r _ _ lt read _ _ _ _ c.loop-k.invariant.0 w.if-link-from.true _ w.join.ensures _ w.try_trail-n.ensures.value,
+        omega (arith, w.try_trail-n.ensures.grown, w.n-is),
+        omega (arith, leaving_more s r _ _ lt read motif w.if-link-from.true, w.try_trail-n.ensures.within, w.n-is),
       )
       | else-link-from w ↦ (
         ap₂ tabled w.trails-is w.n-is ∙ passed_link s r _ _ lt read _ _ _ _ c.loop-k.invariant.0 w.if-link-from.false,

@@ -6,37 +6,37 @@ use Rattle.planner.proofs.Begins.{passed}
 use Rattle.planner.proofs.Serves.{route_refused, lower_parents, route_too_long, route_done}
 use Rattle.planner.proofs.searches.Plan.route.Goals as goal
 
-pub returns-in_err-check-call : goal.returns-in_err-check-call
-returns-in_err-check-call g c =
+pub returns-in_err-check_call : goal.returns-in_err-check_call
+returns-in_err-check_call g c =
     let p = err_from_is_err_and c.from-residual.result c.from-residual.ensures.1 in
-    route_refused g.S.Scale (held_by c.args.repertoire) c.args.self.now.settled c.args.trails.now c.args.links.now _ c.in_err-check-call.ensures c.from-residual.result (p.1 ∙ ap Err p.2)
+    route_refused g.S.Scale (held_by c.args.repertoire) c.args.self.now.settled c.args.trails.now c.args.links.now _ c.in_err-check_call.ensures c.from-residual.result (p.1 ∙ ap Err p.2)
 
-pub route-length-count-requires : goal.route-length-count-requires
-route-length-count-requires g c =
-    let v = call_served g.S.Scale (held_by c.args.repertoire) c.args.self.now.settled.standing c.args.trails.now (passed _ c.in_ok-check-call.ensures) in
+pub route_length-count-requires : goal.route_length-count-requires
+route_length-count-requires g c =
+    let v = call_served g.S.Scale (held_by c.args.repertoire) c.args.self.now.settled.standing c.args.trails.now (passed _ c.in_ok-check_call.ensures) in
     let found = c.args.self.now.found in
     record {
       there = omega (arith, v.within, c.from-place.ensures);
-      lower = λ i z l. lower_parents g.S.Scale (held_by c.args.repertoire) c.args.self.now.settled c.args.trails.now c.args.links.now c.in_ok-check-call.ensures i z (omega (arith, c.from-place.ensures));
+      lower = λ i z l. lower_parents g.S.Scale (held_by c.args.repertoire) c.args.self.now.settled c.args.trails.now c.args.links.now c.in_ok-check_call.ensures i z (omega (arith, c.from-place.ensures));
     }
 
 pub returns-then-count-links : goal.returns-then-count-links
 returns-then-count-links g c =
-    route_too_long g.S.Scale (held_by c.args.repertoire) c.args.self.now.settled c.args.trails.now c.args.links.now c.in_ok-check-call.ensures c.from-place.result c.route-length-count.result c.from-place.ensures
-    c.route-length-count.ensures c.if-count-links.true
+    route_too_long g.S.Scale (held_by c.args.repertoire) c.args.self.now.settled c.args.trails.now c.args.links.now c.in_ok-check_call.ensures c.from-place.result c.route_length-count.result c.from-place.ensures
+    c.route_length-count.ensures c.if-count-links.true
 
-pub write-route-requires : goal.write-route-requires
-write-route-requires g c =
-    let v = call_served g.S.Scale (held_by c.args.repertoire) c.args.self.now.settled.standing c.args.trails.now (passed _ c.in_ok-check-call.ensures) in
+pub write_route-requires : goal.write_route-requires
+write_route-requires g c =
+    let v = call_served g.S.Scale (held_by c.args.repertoire) c.args.self.now.settled.standing c.args.trails.now (passed _ c.in_ok-check_call.ensures) in
     let found = c.args.self.now.found in
     record {
       there = omega (arith, v.within, c.from-place.ensures);
-      lower = λ i z l. lower_parents g.S.Scale (held_by c.args.repertoire) c.args.self.now.settled c.args.trails.now c.args.links.now c.in_ok-check-call.ensures i z (omega (arith, c.from-place.ensures));
-      counted = c.route-length-count.ensures;
+      lower = λ i z l. lower_parents g.S.Scale (held_by c.args.repertoire) c.args.self.now.settled c.args.trails.now c.args.links.now c.in_ok-check_call.ensures i z (omega (arith, c.from-place.ensures));
+      counted = c.route_length-count.ensures;
       room = c.if-count-links.false;
     }
 
 pub returns : goal.returns
 returns g c =
-    route_done g.S.Scale (held_by c.args.repertoire) c.args.self.now.settled c.args.trails.now c.args.links.now c.in_ok-check-call.ensures c.from-place.result c.route-length-count.result c.from-place.ensures
-    c.route-length-count.ensures c.if-count-links.false c.write-route.new.links c.write-route.ensures
+    route_done g.S.Scale (held_by c.args.repertoire) c.args.self.now.settled c.args.trails.now c.args.links.now c.in_ok-check_call.ensures c.from-place.result c.route_length-count.result c.from-place.ensures
+    c.route_length-count.ensures c.if-count-links.false c.write_route.new.links c.write_route.ensures
