@@ -1,4 +1,6 @@
 // The account of a sheet in plain words: what it holds, or why it is refused.
+#![tactic(auto)]
+
 ghost use Rattle.std.specs.Prelude.{◌≡◌};
 ghost use Rattle.account.specs.Accounts.{lacking, reported, links_told, guides_told};
 

@@ -1,5 +1,7 @@
 // Tries the sheets of its folder, sheets at the edges of what may be, and buffers and rows that are just enough and one
 // too few, and prints what came of each.
+#![tactic(auto)]
+
 ghost use Rattle.std.specs.Prelude.{◌≡◌, true, length, take, Some, None, Ok, Err};
 ghost use Rattle.repertoire.specs.Numbers.{refusal_number};
 

@@ -10,7 +10,7 @@ use Rattle.frames.specs.declared.kinds.Kind.TheVariants as kind
 use Rattle.frames.specs.declared.entries.Entry.{Entry}
 use Rattle.frames.specs.declared.entries.Entry.TheVariants as entry
 use Rattle.frames.specs.Digits.{all_digits, value, digits}
-use Rattle.frames.specs.Frames.{is_frame, part, code, coded, body_length, long, kind_of, body_of, cost_of, entry_at, entry_of, read_line, cost_digits, entry_kind, body, line_of, CostFits, EntryFits, ReadsBack}
+use Rattle.frames.specs.Frames.{is_frame, part, code, coded, body_length, kind_of, body_of, cost_of, entry_at, entry_of, read_line, cost_digits, entry_kind, body, line_of, CostFits, EntryFits, ReadsBack}
 use Rattle.frames.specs.Lines.{lines}
 use Rattle.frames.proofs.Cuts.{lines_text}
 use Rattle.frames.proofs.Numerals.{all_digits-append, all_digits-take, all_digits-drop, all_digits-digits, value-digits, digits_value}

@@ -1,5 +1,5 @@
 -- Writing over a buffer.
-use Rattle.std.proofs.Common.{◌≡◌, ℕ, zero, suc, ◌+◌, ◌-◌, ◌/◌, ◌%◌, ◌<◌, ◌≤◌, List, [], ◌∷◌, ◌++◌, length, take, drop, set, sym, refl, ap, ◌∙◌, add-zero, arith}
+use Rattle.std.proofs.Common.{◌≡◌, ℕ, zero, suc, ◌+◌, ◌/◌, ◌%◌, ◌<◌, ◌≤◌, List, [], ◌∷◌, ◌++◌, length, take, drop, set, sym, refl, ap, ◌∙◌, add-zero, arith}
 use Rattle.std.proofs.lemmas.List.{append_assoc, length-append, length-take-le, length_push, take-append-drop, take-set-le, take_at, drop-set, drop_at, drop-drop, set_split}
 use Rattle.frames.specs.Digits.{digit_of, digits}
 use Rattle.scale.specs.Weave.{WeaveCost}

@@ -1,5 +1,7 @@
 // One line of a sheet: read as a frame that borrows its digits, as an entry in numbers, and written. What is read is
 // written again byte for byte, and what is written reads back.
+#![tactic(auto)]
+
 ghost use Rattle.std.specs.Prelude.{◌≡◌, ◌+◌, ◌^◌, ◌<◌, ◌≤◌, length};
 ghost use Rattle.frames.specs.Digits.{is_digit, digit_value, digit_of, value, digits};
 ghost use Rattle.frames.specs.Frames.{code, coded, body_length, over};

@@ -1,5 +1,7 @@
 // What the mill office keeps: links between motifs, the header that counts the motifs, both with the guide as one
 // repertoire, and the refusals, each with its number.
+#![tactic(auto)]
+
 ghost use Rattle.std.specs.Prelude.{◌≡◌, count_by};
 ghost use Rattle.repertoire.specs.Links.{leaves, reaches};
 ghost use Rattle.repertoire.specs.Numbers.{refusal_number};

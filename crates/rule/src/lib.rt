@@ -1,4 +1,6 @@
 // Limits and rules: which of two costs is preferred.
+#![tactic(auto)]
+
 ghost use Rattle.std.specs.Prelude.{◌≡◌, true};
 ghost use Rattle.rule.specs.Rules.{ladder, more};
 ghost use Rattle.rule.specs.Samples.{YarnSample, RuleSample};

@@ -1,5 +1,7 @@
 // What a scale is, with its laws; the simple scales in which weaving is measured; pairs of scales; the weave pile and the
 // harness pile.
+#![tactic(auto)]
+
 ghost use Rattle.std.specs.Prelude.{◌≡◌};
 ghost use Rattle.scale.specs.Shapes.{held_set, HoldsAll};
 ghost use Rattle.scale.specs.Weave.{woven, harnessed};

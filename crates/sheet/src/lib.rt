@@ -1,5 +1,7 @@
 // Sheets: the bytes in which the office keeps a repertoire and its limits, read into rows that the caller lends and
 // written into a buffer that the caller lends. Every line of a sheet is looked at before a row is filled.
+#![tactic(auto)]
+
 ghost use Rattle.std.specs.Prelude.{◌≡◌, ◌+◌, ◌^◌, ◌<◌, Some, None};
 ghost use Rattle.frames.specs.Frames.{frame_kind, frame_line};
 ghost use Rattle.frames.specs.Lines.{lines};

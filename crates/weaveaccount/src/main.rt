@@ -1,4 +1,6 @@
 // Reads a sheet on standard input and prints an account of it in plain words.
+#![tactic(auto)]
+
 use account::{MOST_BYTES, report};
 use repertoire::Link;
 use scale::weave_cost;

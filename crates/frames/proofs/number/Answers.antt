@@ -1,6 +1,6 @@
 use Rattle.std.proofs.Common.{◌≡◌, ◌+◌, ◌*◌, ◌^◌, ◌<◌, length, get_or, drop, sym, ap, ◌∙◌, subst, arith}
 use Rattle.std.proofs.lemmas.List.{at_drop_more, at_drop_all}
-use Rattle.frames.specs.Digits.{digit_value, value, value_from}
+use Rattle.frames.specs.Digits.{digit_value, value_from}
 use Rattle.frames.proofs.Powers.{digit_more, digit_room}
 use Rattle.frames.proofs.number.Goals as goal
 

@@ -1,6 +1,5 @@
 use Rattle.std.proofs.Common.{◌≡◌, ◌-◌, ◌≤◌, length, get_or, Some, sym, ap, ◌∙◌, subst, rules}
-use Rattle.frames.specs.Digits.{value}
-use Rattle.frames.specs.Frames.{coded, body_length, Parted}
+use Rattle.frames.specs.Frames.{body_length, Parted}
 use Rattle.frames.proofs.Reading.{body_is, length_body, framed, named, kind_known, kind_unknown}
 use Rattle.frames.proofs.parsing.parse.Goals as goal
 

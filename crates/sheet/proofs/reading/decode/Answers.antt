@@ -12,7 +12,7 @@ returns-in_err-survey c =
     let m = length c.args.links.now in
     let n = length c.args.guides.now in
     let d = unframed_decides m n c.args.sheet.now c.in_err-survey.field-0.0 (sym c.in_err-survey.ensures) in
-    let p = err_from_is_err_and c.from-residual.result c.from-residual.ensures.1 in
+    let p = err_from_is_err_and c.from_residual.result c.from_residual.ensures.1 in
     record {
       value = p.1 ∙ ap Err p.2 ∙ sym (ap answered d);
       links = sym (ap (λ r. links_after r c.args.links.now) d);
