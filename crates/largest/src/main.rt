@@ -1,5 +1,7 @@
 // Makes the largest repertoire that the planner takes, plans in it under one set of limits after another, and prints what
 // came of each call.
+#![tactic(auto)]
+
 use planner::begin;
 use repertoire::{Header, Repertoire};
 use rule::Ladder;

@@ -1,7 +1,7 @@
 // Why a call did nothing.
 use std::fmt;
 
-#[derive(Clone, Copy, PartialEq, Eq)]
+#[derive(Clone, Copy, PartialEq, Eq, Debug)]
 pub enum Refusal {
     // There is no motif, or there are more than the planner takes.
     WrongMotifCount,

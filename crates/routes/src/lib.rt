@@ -1,4 +1,6 @@
 // A trail's path read back along its parents: how many links it has, and their numbers put first to last.
+#![tactic(auto)]
+
 ghost use Rattle.std.specs.Prelude.{◌≡◌, ℕ, ◌<◌, ◌≤◌, ◌++◌, length, drop};
 ghost use Rattle.trails.specs.Tables.{trail_at, trail_path};
 

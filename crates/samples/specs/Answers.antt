@@ -8,7 +8,7 @@ use Rattle.trails.specs.declared.standings.Settled.{Settled}
 use Rattle.trails.specs.declared.standings.Standing.{Standing}
 use Rattle.trails.specs.declared.trails.Trail.{Trail}
 use Rattle.trails.specs.Repertoires.{Repertoire}
-use Rattle.trails.specs.Calls.{Begun, After, begin, run, settle, route}
+use Rattle.trails.specs.Calls.{Begun, After, run, settle, route}
 use Rattle.planner.specs.declared.searches.Plan.{Plan}
 use Rattle.samples.specs.declared.outcomes.Stop.{Stop}
 use Rattle.samples.specs.declared.outcomes.Trip.{Trip}

@@ -5,7 +5,7 @@ ghost use Rattle.samples.specs.declared.faults.Fault.TheVariants.{Refused, Outpu
 use repertoire::Refusal;
 use std::io;
 
-#[derive(Drop)]
+#[derive(Debug, Drop)]
 pub enum Fault {
     Refused(Refusal),
     Output(io::Error),

@@ -1,4 +1,6 @@
 // Runs the samples by the calls of the planner, and prints what comes of each.
+#![tactic(auto)]
+
 use begun::{begun_stop, begun_trip};
 use faults::Fault;
 use outcomes::Answer;

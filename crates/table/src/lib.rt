@@ -1,5 +1,7 @@
 // The code on the table of trails: whether a new trail is discarded and which others it drops, the best open trail, and
 // the expansion of one trail. Each function comes to its definition in the crate of the trails.
+#![tactic(auto)]
+
 mod choosing;
 mod dropping;
 mod expanding;

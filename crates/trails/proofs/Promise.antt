@@ -1,14 +1,12 @@
 -- The promise over whole runs holds of what begin makes, for every scale and rule that keep their laws.
-use Rattle.std.proofs.Common.{◌≡◌, ℕ, ◌+◌, ◌<◌, ◌≤◌, Bool, false, ◌⊎◌, List, length, set, Some, None, Ok, Err, Option, Result, sym, refl, ap, ◌∙◌, subst, inl, inr, arith}
+use Rattle.std.proofs.Common.{◌≡◌, ℕ, ◌+◌, ◌<◌, ◌≤◌, Bool, false, ◌⊎◌, List, length, set, Some, None, Ok, Option, sym, refl, ap, ◌∙◌, subst, inl, inr, arith}
 use Rattle.scale.specs.declared.scales.Scale.{Ghosts}
 use Rattle.scale.specs.Shapes.{held_set, Shaped}
 use Rattle.rule.specs.declared.rules.Rule as rules
 use Rattle.rule.specs.Soundness as soundness
 use Rattle.repertoire.specs.declared.refusals.Refusal.{Refusal}
-use Rattle.repertoire.specs.declared.refusals.Refusal.TheVariants.{TooFewPlaces}
 use Rattle.trails.specs.declared.answers.Ending.{Ending}
 use Rattle.trails.specs.declared.answers.Ending.TheVariants as ending
-use Rattle.trails.specs.declared.answers.Run.{Run}
 use Rattle.trails.specs.declared.answers.Step.TheVariants as answer
 use Rattle.trails.specs.declared.standings.Settled.{Settled}
 use Rattle.trails.specs.declared.standings.Standing.{Standing}

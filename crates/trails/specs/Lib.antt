@@ -6,7 +6,6 @@ pub mod Counts
 pub mod Expanding
 pub mod Meanings
 pub mod Paths
-pub mod Piles
 pub mod Promise
 pub mod Repertoires
 pub mod Samples

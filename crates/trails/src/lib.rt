@@ -1,5 +1,7 @@
 // The records of the planner and the meaning of its calls, as definitions in specs/; the promise over whole runs and its
 // proof. No call stands here.
+#![tactic(auto)]
+
 mod answers;
 mod counting;
 mod meanings;

@@ -8,7 +8,7 @@ use Rattle.checks.proofs.tables.check_begin.Goals as goal
 pub returns-in_err-check_repertoire : goal.returns-in_err-check_repertoire
 returns-in_err-check_repertoire g c =
     let r = held_by c.args.repertoire in
-    let p = err_from_is_err_and c.from-residual.result c.from-residual.ensures.1 in
+    let p = err_from_is_err_and c.from_residual.result c.from_residual.ensures.1 in
     p.1 ∙ ap Err p.2 ∙ fails_before (length_checks g.S.Scale r c.args.trails.now) (repertoire_checks g.S.Scale r) _ c.in_err-check_repertoire.ensures
 
 pub returns-then-not-is_count : goal.returns-then-not-is_count

@@ -6,11 +6,11 @@ use Rattle.planner.proofs.beginning.begin.Goals as goal
 
 pub returns-in_err-check_begin : goal.returns-in_err-check_begin
 returns-in_err-check_begin g c =
-    let p = err_from_is_err_and c.from-residual.result c.from-residual.ensures.1 in
+    let p = err_from_is_err_and c.from_residual.result c.from_residual.ensures.1 in
     let e = p.1 ∙ ap Err p.2 in
     record {
-      value = begin_refused_by g.S.Scale (held_by c.args.repertoire) c.args.limits c.args.rule c.args.trails.now c.from-residual.result _ e c.in_err-check_begin.ensures;
-      promise = nothing_promised g.S.Scale g.R.Rule (held_by c.args.repertoire) c.from-residual.result _ c.args.trails.now e;
+      value = begin_refused_by g.S.Scale (held_by c.args.repertoire) c.args.limits c.args.rule c.args.trails.now c.from_residual.result _ e c.in_err-check_begin.ensures;
+      promise = nothing_promised g.S.Scale g.R.Rule (held_by c.args.repertoire) c.from_residual.result _ c.args.trails.now e;
     }
 
 pub returns : goal.returns

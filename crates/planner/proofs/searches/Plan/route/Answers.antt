@@ -8,8 +8,8 @@ use Rattle.planner.proofs.searches.Plan.route.Goals as goal
 
 pub returns-in_err-check_call : goal.returns-in_err-check_call
 returns-in_err-check_call g c =
-    let p = err_from_is_err_and c.from-residual.result c.from-residual.ensures.1 in
-    route_refused g.S.Scale (held_by c.args.repertoire) c.args.self.now.settled c.args.trails.now c.args.links.now _ c.in_err-check_call.ensures c.from-residual.result (p.1 ∙ ap Err p.2)
+    let p = err_from_is_err_and c.from_residual.result c.from_residual.ensures.1 in
+    route_refused g.S.Scale (held_by c.args.repertoire) c.args.self.now.settled c.args.trails.now c.args.links.now _ c.in_err-check_call.ensures c.from_residual.result (p.1 ∙ ap Err p.2)
 
 pub route_length-count-requires : goal.route_length-count-requires
 route_length-count-requires g c =

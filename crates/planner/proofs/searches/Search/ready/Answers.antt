@@ -7,11 +7,11 @@ use Rattle.planner.proofs.searches.Search.ready.Goals as goal
 
 pub returns-in_err-check_call : goal.returns-in_err-check_call
 returns-in_err-check_call g c =
-    let p = err_from_is_err_and c.from-residual.result c.from-residual.ensures.1 in
+    let p = err_from_is_err_and c.from_residual.result c.from_residual.ensures.1 in
     let e = p.1 ∙ ap Err p.2 in
     record {
-      value = settle_refused g.S.Scale g.R.Rule (held_by c.args.repertoire) c.args.self.now.standing c.args.trails.now _ c.in_err-check_call.ensures c.from-residual.result e;
-      found = nothing_found c.args.self.now.standing c.from-residual.result _ e;
+      value = settle_refused g.S.Scale g.R.Rule (held_by c.args.repertoire) c.args.self.now.standing c.args.trails.now _ c.in_err-check_call.ensures c.from_residual.result e;
+      found = nothing_found c.args.self.now.standing c.from_residual.result _ e;
     }
 
 pub outlook-ahead-requires : goal.outlook-ahead-requires

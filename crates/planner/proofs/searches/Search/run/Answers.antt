@@ -6,8 +6,8 @@ use Rattle.planner.proofs.searches.Search.run.Goals as goal
 
 pub returns-in_err-check_call : goal.returns-in_err-check_call
 returns-in_err-check_call g c =
-    let p = err_from_is_err_and c.from-residual.result c.from-residual.ensures.1 in
-    run_refused g.S.Scale g.R.Rule (held_by c.args.repertoire) c.args.self.now.standing c.args.trails.now _ c.in_err-check_call.ensures c.args.budget c.from-residual.result (p.1 ∙ ap Err p.2)
+    let p = err_from_is_err_and c.from_residual.result c.from_residual.ensures.1 in
+    run_refused g.S.Scale g.R.Rule (held_by c.args.repertoire) c.args.self.now.standing c.args.trails.now _ c.in_err-check_call.ensures c.args.budget c.from_residual.result (p.1 ∙ ap Err p.2)
 
 pub run_on-moves-requires : goal.run_on-moves-requires
 run_on-moves-requires g c =
