@@ -3,7 +3,7 @@ use Rattle.std.proofs.Common.{◌≡◌, ℕ, ◌+◌, ◌*◌, ◌<◌, ◌≤�
 use Rattle.std.proofs.lemmas.List.{at_drop_more, drop_more, drop_all, append_assoc, append-nil, length-append}
 use Rattle.std.proofs.ByRecursion.{All-append}
 use Rattle.std.proofs.lemmas.Bool.{cond-true, le-leb}
-use Rattle.std.specs.List.{AllByRecursion as All}
+use Rattle.std.specs.List.{AllByRecursion}
 use Rattle.repertoire.specs.declared.refusals.Refusal.{Refusal}
 use Rattle.repertoire.specs.declared.refusals.Refusal.TheVariants.{BufferTooShort}
 use Rattle.scale.specs.Weave.{WeaveCost}
@@ -45,12 +45,12 @@ text_more said rows i x e lt read entry =
     step ∙ ap (λ y. line_of y ++ text_of (map said (drop (i + 1) rows))) (ap said (sym read) ∙ sym entry)
 
 -- they read back, one more and none
-pub all_more : {R : Type 0} (said : R → Entry) (rows : List R) (i : ℕ) (x : R) (e : Entry) → i < length rows → x ≡ get_or rows i x → e ≡ said x → ReadsBack e → All ReadsBack (map said (drop (i + 1) rows)) → All ReadsBack (map said (drop i rows))
+pub all_more : {R : Type 0} (said : R → Entry) (rows : List R) (i : ℕ) (x : R) (e : Entry) → i < length rows → x ≡ get_or rows i x → e ≡ said x → ReadsBack e → AllByRecursion ReadsBack (map said (drop (i + 1) rows)) → AllByRecursion ReadsBack (map said (drop i rows))
 all_more said rows i x e lt read entry back rest =
-    subst (λ l. All ReadsBack (map said l)) (sym (drop_more rows i x lt)) (subst ReadsBack (entry ∙ ap said read) back, rest)
+    subst (λ l. AllByRecursion ReadsBack (map said l)) (sym (drop_more rows i x lt)) (subst ReadsBack (entry ∙ ap said read) back, rest)
 
-pub all_none : {R : Type 0} (said : R → Entry) (rows : List R) (i : ℕ) → length rows ≤ i → All ReadsBack (map said (drop i rows))
-all_none said rows i past = subst (λ l. All ReadsBack (map said l)) (sym (drop_all i rows past)) tt
+pub all_none : {R : Type 0} (said : R → Entry) (rows : List R) (i : ℕ) → length rows ≤ i → AllByRecursion ReadsBack (map said (drop i rows))
+all_none said rows i past = subst (λ l. AllByRecursion ReadsBack (map said l)) (sym (drop_all i rows past)) tt
 
 -- ---- a whole sheet
 
@@ -132,7 +132,7 @@ module _ (s : Sheet) where
 
 -- ---- all its entries read back
 
-pub each_back : (s : Sheet) → ReadsBack (entry.Header s.header) → All ReadsBack (map entry.Link s.links) → All ReadsBack (map entry.Guide s.guides) → ReadsBack (entry.Limits s.limits) → All ReadsBack (entries_of s)
+pub each_back : (s : Sheet) → ReadsBack (entry.Header s.header) → AllByRecursion ReadsBack (map entry.Link s.links) → AllByRecursion ReadsBack (map entry.Guide s.guides) → ReadsBack (entry.Limits s.limits) → AllByRecursion ReadsBack (entries_of s)
 each_back s header links guides limits =
     (header, All-append ReadsBack (map entry.Link s.links) _ links (All-append ReadsBack (map entry.Guide s.guides) _ guides (limits, (read_back entry.End tt, tt))))
 

@@ -1,7 +1,7 @@
 -- A sheet that was accepted is written again, and a sheet that was written reads back.
 use Rattle.std.proofs.Common.{◌≡◌, ℕ, ◌+◌, ◌≤◌, Bool, true, false, cond, ◌&&◌, ltb, List, [], ◌∷◌, ◌++◌, map, length, is_some, IfOk, Some, None, Ok, Err, Option, Result, sym, refl, ap, ◌∙◌, arith}
 use Rattle.std.proofs.lemmas.Bool.{cond-true, cond-false, and_parts, le-ltb, ltb-false}
-use Rattle.std.specs.List.{flat_map, AllByRecursion as All}
+use Rattle.std.specs.List.{flat_map, AllByRecursion}
 use Rattle.std.specs.Option.{option_map, option_to_list}
 use Rattle.repertoire.specs.declared.refusals.Refusal.{Refusal}
 use Rattle.repertoire.specs.declared.refusals.Refusal.TheVariants.{NotAFrame, UnknownFrame, FrameOutOfOrder, TooFewRows}
@@ -114,11 +114,11 @@ order_back n last (e ∷ es) h =
     (λ i. cond (comes last (line_kind e i)) (misplaced (n + 1) (behind last (line_kind e i)) (map line_of es)) (Some n))
     ∙ cond-true (may_follow last (entry_kind e)) _ _ p.0 ∙ order_back (n + 1) (Some (entry_kind e)) es p.1
 
-entries_back : (es : List Entry) → All ReadsBack es → entries_in (map line_of es) ≡ es
+entries_back : (es : List Entry) → AllByRecursion ReadsBack es → entries_in (map line_of es) ≡ es
 entries_back [] h = refl
 entries_back (e ∷ es) h = λ i. option_to_list (said_back e h.0 i) ++ entries_back es h.1 i
 
-pub read_back : (link_rows guide_rows : ℕ) (s : Sheet) → All ReadsBack (entries_of s) → length s.links ≤ link_rows → length s.guides ≤ guide_rows → decoded link_rows guide_rows (written s) ≡ Ok s
+pub read_back : (link_rows guide_rows : ℕ) (s : Sheet) → AllByRecursion ReadsBack (entries_of s) → length s.links ≤ link_rows → length s.guides ≤ guide_rows → decoded link_rows guide_rows (written s) ≡ Ok s
 read_back link_rows guide_rows s each room place =
     let es = entries_of s in
     let sheet : gathered (entries_in (map line_of es)) ≡ s = ap gathered (entries_back es each) ∙ gathered_back s in

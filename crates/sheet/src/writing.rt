@@ -1,6 +1,6 @@
 // A sheet written into the buffer of its caller.
 ghost use Rattle.std.specs.Prelude.{◌≡◌, ◌+◌, ◌*◌, ◌≤◌, map, length, Ok, OnOk};
-ghost use Rattle.std.specs.List.{AllByRecursion as All};
+ghost use Rattle.std.specs.List.{AllByRecursion};
 ghost use Rattle.frames.specs.declared.entries.Entry.TheVariants.{Link as LinkEntry, Guide as GuideEntry};
 ghost use Rattle.frames.specs.Frames.{over, ReadsBack};
 ghost use Rattle.sheet.specs.Sheets.{records, text_of, length_in, written_into, RoundTrips};
@@ -31,7 +31,7 @@ fn write_rows<R: Row>(buffer: &mut [u8], start: usize, rows: &[R]) -> Result<usi
     requires { start + length (text_of (map R.Row.said rows.now)) ≤ length buffer.old }
     ensures value { result ≡ Ok (start + length (text_of (map R.Row.said rows.now))) }
     ensures after { buffer.new ≡ over buffer.old start (text_of (map R.Row.said rows.now)) }
-    ensures back { All ReadsBack (map R.Row.said rows.now) }
+    ensures back { AllByRecursion ReadsBack (map R.Row.said rows.now) }
 {
     let mut at = start;
     for row in rows {
