@@ -3,7 +3,8 @@ use Rattle.std.proofs.Common.{◌≡◌, ℕ, Bool, true, false, cond, not, ◌�
 use Rattle.std.proofs.lemmas.Bool.{both_ways, cases_Bool}
 use Rattle.scale.specs.declared.scales.Scale.{Ghosts}
 use Rattle.scale.specs.Laws.{Laws}
-use Rattle.scale.specs.Shapes.{held_set, HoldsAll}
+use Rattle.scale.specs.Shapes.{held_set, HoldsAll, Shaped}
+use Rattle.scale.proofs.Held.{holds_all}
 use Rattle.rule.specs.Preferred.{preferred, Orders}
 use Rattle.rule.specs.Soundness.{IsSet, AsGood, Sound}
 
@@ -31,7 +32,10 @@ one_unchosen false false true l' h k = inr refl
 one_unchosen false false false true h k = inl refl
 one_unchosen false false false false h k = absurd (⊎_elim (λ e. both_ways false refl e) (λ e. both_ways false refl e) k)
 
-module _ {S : Type 0} (s : Ghosts S) (better : ℕ → ℕ → Bool) (limits : S) (laws : Laws s.neutral s.joined s.no_worse s.liked) (grows : HoldsAll s.no_worse s.shape) (sound : Sound better) where
+module _ {S : Type 0} (s : Ghosts S) (better : ℕ → ℕ → Bool) (limits : S) (laws : Laws s.neutral s.joined s.no_worse s.liked) (shaped : Shaped s.no_worse s.shape) (sound : Sound better) where
+  grows : HoldsAll s.no_worse s.shape
+  grows = holds_all s.no_worse s.shape shaped
+
   is_set : (x : S) → IsSet (held_set s.shape limits x)
   is_set x = omega arith
 

@@ -4,14 +4,15 @@
 ghost use Rattle.std.specs.Prelude.{◌≡◌, true};
 ghost use Rattle.rule.specs.Rules.{ladder, more};
 ghost use Rattle.rule.specs.Samples.{YarnSample, RuleSample};
-ghost use Rattle.rule.specs.Preferred.{preferred, Orders};
 ghost use Rattle.rule.specs.RuleLaws.{ladder_sound, more_sound};
 
-use scale::Scale;
+use std::cmp::Ordering;
 
+mod preferences;
 mod rules;
 mod verdicts;
 
+pub use preferences::Preference;
 pub use rules::Rule;
 pub use verdicts::Verdict;
 
@@ -47,27 +48,11 @@ impl Rule for Count {
     ghost sound = { λ _. more_sound };
 
     fn compare(&self, first: u8, second: u8) -> Verdict {
-        let first = first.count_ones();
-        let second = second.count_ones();
-        if first > second {
-            Verdict::First
-        } else if second > first {
-            Verdict::Second
-        } else {
-            Verdict::Equal
+        match first.count_ones().cmp(&second.count_ones()) {
+            Ordering::Greater => Verdict::First,
+            Ordering::Equal => Verdict::Equal,
+            Ordering::Less => Verdict::Second,
         }
-    }
-}
-
-// Whether the first cost is preferred to the second under the limits.
-pub fn prefers<S: Scale, R: Rule>(rule: &R, limits: S, first: S, second: S) -> bool
-    ensures value { result ≡ preferred S.Scale (R.Rule.better rule.now) limits first second }
-    ensures orders { Orders S.Scale (R.Rule.better rule.now) limits }
-{
-    match rule.compare(first.held(limits), second.held(limits)) {
-        Verdict::First => true,
-        Verdict::Second => false,
-        Verdict::Equal => !second.likes(first),
     }
 }
 
