@@ -1,81 +1,67 @@
-// Why a call did nothing.
-use std::fmt;
+// Why a call did nothing: each refusal with the number under which it is listed.
+ghost use Rattle.std.specs.Prelude.{◌≡◌};
 
-#[derive(Clone, Copy, PartialEq, Eq, Debug)]
+use thiserror::Error;
+
+#[derive(Clone, Copy, PartialEq, Eq, Debug, Error)]
 pub enum Refusal {
     // There is no motif, or there are more than the planner takes.
-    WrongMotifCount,
+    #[error("there is no motif, or there are more than 1,024")]
+    WrongMotifCount = 1,
     // The motif on the loom or the motif ordered is no motif of the repertoire.
-    UnknownEnd,
+    #[error("the motif on the loom or the motif ordered is not among the motifs")]
+    UnknownEnd = 2,
     // There are more links than the planner takes.
-    TooManyLinks,
+    #[error("there are more than 8,192 links")]
+    TooManyLinks = 3,
     // A link leaves or reaches what is no motif of the repertoire.
-    UnknownMotif,
-    // The guides are not as many as the motifs.
-    WrongGuideCount,
-    // The guide says more than what remains.
-    GuideOverstates,
+    #[error("a link leaves or reaches what is not among the motifs")]
+    UnknownMotif = 4,
+    #[error("the guides are not as many as the motifs")]
+    WrongGuideCount = 5,
+    #[error("the guide says more than what remains")]
+    GuideOverstates = 6,
     // The pile has more simple scales than a held set has bits.
-    TooManyScales,
+    #[error("there are more than 8 simple scales")]
+    TooManyScales = 7,
     // The table has no place, or more than the planner takes.
-    WrongTableLength,
-    // The buffer is shorter than the route.
-    RouteTooLong,
+    #[error("the table has no place, or more than 4,096")]
+    WrongTableLength = 8,
+    #[error("the buffer is shorter than the route")]
+    RouteTooLong = 9,
     // A line is not a frame, or the last lacks its line feed.
-    NotAFrame,
-    // A frame has an unknown kind or a wrong length.
-    UnknownFrame,
-    // A frame is out of order, missing or once too many.
-    FrameOutOfOrder,
+    #[error("a line is not a frame: an even number of the digits 0-9 and a-f, at least two, then a line feed")]
+    NotAFrame = 10,
+    #[error("a frame has an unknown kind or a wrong length")]
+    UnknownFrame = 11,
+    #[error("a frame is out of order, missing or once too many")]
+    FrameOutOfOrder = 12,
     // There are more links or guides than rows to put them in.
-    TooFewRows,
-    // The buffer is shorter than the sheet.
-    BufferTooShort,
+    #[error("there are more links or guides than there is room for")]
+    TooFewRows = 13,
+    #[error("the buffer is shorter than the sheet")]
+    BufferTooShort = 14,
     // The repertoire has other counts or ends than the one that was begun with.
-    AnotherRepertoire,
+    #[error("the repertoire is not the one that was begun with")]
+    AnotherRepertoire = 21,
     // The table has another length than the one that was begun with, or a used place of it is wrong.
-    AnotherTable,
+    #[error("the table is not the one that was begun with")]
+    AnotherTable = 22,
     // More links leave the motif of the best open trail than there are unused places.
-    TooFewPlaces,
+    #[error("the table has too few unused places")]
+    TooFewPlaces = 23,
     // No open trail is at the goal, or another one is better.
-    NotSettled,
+    #[error("no plan lies ready")]
+    NotSettled = 24,
 }
 
-impl fmt::Display for Refusal {
-    fn fmt<W: fmt::Write>(&self, f: &mut fmt::Formatter<W>) -> fmt::Result {
-        match self {
-            Refusal::WrongMotifCount => f.write_str(
-                "there is no motif, or there are more than 1,024",
-            ),
-            Refusal::UnknownEnd => f.write_str(
-                "the motif on the loom or the motif ordered is not among the motifs",
-            ),
-            Refusal::TooManyLinks => f.write_str("there are more than 8,192 links"),
-            Refusal::UnknownMotif => f.write_str(
-                "a link leaves or reaches what is not among the motifs",
-            ),
-            Refusal::WrongGuideCount => f.write_str("the guides are not as many as the motifs"),
-            Refusal::GuideOverstates => f.write_str("the guide says more than what remains"),
-            Refusal::TooManyScales => f.write_str("there are more than 8 simple scales"),
-            Refusal::WrongTableLength => f.write_str("the table has no place, or more than 4,096"),
-            Refusal::RouteTooLong => f.write_str("the buffer is shorter than the route"),
-            Refusal::NotAFrame => f.write_str(
-                "a line is not a frame: an even number of the digits 0-9 and a-f, at least two, then a line feed",
-            ),
-            Refusal::UnknownFrame => f.write_str("a frame has an unknown kind or a wrong length"),
-            Refusal::FrameOutOfOrder => f.write_str(
-                "a frame is out of order, missing or once too many",
-            ),
-            Refusal::TooFewRows => f.write_str(
-                "there are more links or guides than there is room for",
-            ),
-            Refusal::BufferTooShort => f.write_str("the buffer is shorter than the sheet"),
-            Refusal::AnotherRepertoire => f.write_str(
-                "the repertoire is not the one that was begun with",
-            ),
-            Refusal::AnotherTable => f.write_str("the table is not the one that was begun with"),
-            Refusal::TooFewPlaces => f.write_str("the table has too few unused places"),
-            Refusal::NotSettled => f.write_str("no plan lies ready"),
-        }
+impl Refusal {
+    ghost use Rattle.repertoire.specs.Numbers.{refusal_number};
+
+    // The number under which the refusal is listed.
+    pub fn number(self) -> u8
+        ensures { result ≡ refusal_number self }
+    {
+        self as u8
     }
 }
