@@ -21,11 +21,11 @@ impl Simple for Grade {
     }
 
     fn join(self, next: Grade) -> Grade {
-        if self as u8 <= next as u8 { next } else { self }
+        self.max(next)
     }
 
     fn no_worse(self, other: Grade) -> bool {
-        self as u8 <= other as u8
+        self <= other
     }
 
     fn likes(self, other: Grade) -> bool {

@@ -1,5 +1,5 @@
 // How much work something is.
-#[derive(Clone, Copy, PartialEq, Eq)]
+#[derive(Clone, Copy, PartialEq, Eq, PartialOrd, Ord)]
 pub enum Grade {
     Tiny,
     Small,

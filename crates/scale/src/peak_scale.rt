@@ -20,13 +20,11 @@ impl Simple for Peak {
     }
 
     fn join(self, next: Peak) -> Peak {
-        Peak {
-            value: self.value.max(next.value),
-        }
+        self.max(next)
     }
 
     fn no_worse(self, other: Peak) -> bool {
-        self.value <= other.value
+        self <= other
     }
 
     fn likes(self, other: Peak) -> bool {

@@ -43,10 +43,6 @@ impl<T: Simple> Scale for T {
     }
 
     fn held(self, limits: T) -> u8 {
-        if <T as Simple>::no_worse(self, limits) {
-            1
-        } else {
-            0
-        }
+        u8::from(<T as Simple>::no_worse(self, limits))
     }
 }

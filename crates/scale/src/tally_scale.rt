@@ -26,7 +26,7 @@ impl Simple for Tally {
     }
 
     fn no_worse(self, other: Tally) -> bool {
-        self.value <= other.value
+        self <= other
     }
 
     fn likes(self, other: Tally) -> bool {

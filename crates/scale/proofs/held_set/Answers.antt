@@ -1,5 +1,5 @@
 use Rattle.scale.proofs.Held.{holds_all}
 use Rattle.scale.proofs.held_set.Goals as goal
 
-pub returns : goal.returns
-returns g c = record { value = c.held.ensures; grows = holds_all g.S.Scale.no_worse g.S.Scale.shape g.met.S.Scale.shaped }
+pub returns-clause-grows : goal.returns-clause-grows
+returns-clause-grows g c = holds_all g.S.Scale.no_worse g.S.Scale.shape g.met.S.Scale.shaped
