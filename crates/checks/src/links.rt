@@ -1,11 +1,12 @@
 // Links between motifs, and the guide along them.
 ghost use Rattle.std.specs.Prelude.{◌≡◌, ◌&&◌};
 ghost use Rattle.trails.specs.Checks.{is_motif, guide_ends, guide_suits};
-ghost use Rattle.trails.specs.Repertoires.{held_by, guide_at};
+ghost use Rattle.trails.specs.Repertoires.{held_by};
 ghost use Rattle.checks.specs.Answers.{all_between, all_suited};
 
 use repertoire::{Link, Repertoire};
 use scale::Scale;
+use trails::guide_of;
 
 // Whether two numbers are motifs of the repertoire.
 pub fn are_motifs<S: Scale>(repertoire: Repertoire<'_, S>, a: u16, b: u16) -> bool
@@ -19,22 +20,10 @@ pub fn are_motifs<S: Scale>(repertoire: Repertoire<'_, S>, a: u16, b: u16) -> bo
 pub fn all_between<S: Scale>(repertoire: Repertoire<'_, S>) -> bool
     ensures { result ≡ all_between S.Scale (held_by repertoire.entry) }
 {
-    for link in repertoire.links {
-        if !are_motifs(repertoire, link.from, link.to) {
-            return false;
-        }
-    }
-    true
-}
-
-// The guide of a motif.
-fn guide_of<S: Scale>(repertoire: Repertoire<'_, S>, motif: u16) -> S
-    ensures { result ≡ guide_at S.Scale (held_by repertoire.entry) motif }
-{
-    match repertoire.guides.get(usize::from(motif)) {
-        Some(guide) => *guide,
-        None => S::neutral(),
-    }
+    repertoire
+        .links
+        .iter()
+        .all(|link| are_motifs(repertoire, link.from, link.to))
 }
 
 // Whether the guide of the goal says that nothing remains.
@@ -56,12 +45,10 @@ fn guide_suits<S: Scale>(repertoire: Repertoire<'_, S>, link: Link<S>) -> bool
 fn all_suited<S: Scale>(repertoire: Repertoire<'_, S>) -> bool
     ensures { result ≡ all_suited S.Scale (held_by repertoire.entry) }
 {
-    for link in repertoire.links {
-        if !guide_suits(repertoire, *link) {
-            return false;
-        }
-    }
-    true
+    repertoire
+        .links
+        .iter()
+        .all(|link| guide_suits(repertoire, *link))
 }
 
 // Whether the guide ends at the goal and suits all links.

@@ -21,7 +21,7 @@ const MOST_SCALES: u8 = 8;
 pub fn is_count(most: usize, n: usize) -> bool
     ensures { result ≡ is_count most n }
 {
-    n > 0 && n <= most
+    (1..=most).contains(&n)
 }
 
 // What is wrong with a repertoire or its pile, if anything.

@@ -30,12 +30,7 @@ pub fn check_begin<S: Scale>(
 fn is_same_repertoire<S: Scale, R>(repertoire: Repertoire<'_, S>, standing: &Standing<S, R>) -> bool
     ensures { result ≡ is_same_repertoire S.Scale (held_by repertoire.entry) standing.now }
 {
-    let given = repertoire.header;
-    let begun = standing.header;
-    given.motifs == begun.motifs
-        && given.start == begun.start
-        && given.goal == begun.goal
-        && repertoire.links.len() == usize::from(standing.links)
+    repertoire.header == standing.header && repertoire.links.len() == usize::from(standing.links)
 }
 
 // Whether a trail is right at that place.
@@ -51,17 +46,13 @@ fn is_right<S: Scale>(repertoire: Repertoire<'_, S>, trail: Trail<S>, place: usi
     usize::from(trail.link) < repertoire.links.len() && usize::from(trail.parent) < place
 }
 
-// Whether the first places, so many of them, are right.
-fn all_right<S: Scale>(repertoire: Repertoire<'_, S>, trails: &[Trail<S>], used: usize) -> bool
-    requires { used ≤ length trails.now }
-    ensures { result ≡ all_right S.Scale (held_by repertoire.entry) trails.now used }
+// Whether all places of a row are right.
+fn all_right<S: Scale>(repertoire: Repertoire<'_, S>, used: &[Trail<S>]) -> bool
+    ensures { result ≡ all_right S.Scale (held_by repertoire.entry) used.now (length used.now) }
 {
-    for place in 0..used {
-        if !is_right(repertoire, trails[place], place) {
-            return false;
-        }
-    }
-    true
+    used.iter()
+        .enumerate()
+        .all(|(place, trail)| is_right(repertoire, *trail, place))
 }
 
 // Whether the table has the length that was begun with, and its used places are there and right.
@@ -75,7 +66,7 @@ fn is_same_table<S: Scale, R>(
     let used = usize::from(standing.used);
     trails.len() == usize::from(standing.places)
         && used <= trails.len()
-        && all_right(repertoire, trails, used)
+        && all_right(repertoire, &trails[..used])
 }
 
 // What is wrong with what a call is given, if anything.
