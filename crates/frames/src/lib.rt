@@ -108,16 +108,13 @@ fn digit_of(number: u8) -> u8
     }
 }
 
-// Writes the last `width` digits of a number at a place, and says where they end.
-fn put_number(buffer: &mut [u8], at: usize, width: usize, number: u32) -> usize
-    requires { at + width ≤ length buffer.old }
-    ensures value { result ≡ at + width }
-    ensures after { buffer.new ≡ over buffer.old at (digits width number) }
+// Writes the last digits of a number, as many as there is room for.
+#[tactic(auto, unfolding(crate::specs::Digits::digits))]
+fn put_number(slot: &mut [u8], number: u32)
+    ensures { slot.new ≡ digits (length slot.old) number }
 {
-    let mut rest = number;
-    for i in (0..width).rev() {
-        buffer[at + i] = digit_of((rest % 16) as u8);
-        rest /= 16;
+    if let Some((digit, front)) = slot.split_last_mut() {
+        *digit = digit_of((number % 16) as u8);
+        put_number(front, number / 16);
     }
-    at + width
 }
