@@ -1,8 +1,10 @@
 -- A sheet and its first line.
-use Rattle.std.proofs.Common.{◌≡◌, ℕ, suc, ◌<◌, Bool, true, false, cond, eqb, List, [], ◌∷◌, ◌++◌, length, take, drop, refl, ap, ◌∙◌, arith}
-use Rattle.std.specs.List.{flat_map}
+use Rattle.std.proofs.Common.{◌≡◌, ℕ, suc, ◌<◌, ◌+◌, ◌==◌, Option, min, Bool, true, false, cond, eqb, List, [], ◌∷◌, ◌++◌, length, take, drop, refl, ap, ◌∙◌, arith}
+use Rattle.std.specs.List.{flat_map, position, position_or_len}
+use Rattle.std.specs.Option.{MatchOption}
 use Rattle.std.proofs.lemmas.Bool.{and_parts, cond-false}
 use Rattle.std.proofs.lemmas.Bool.Decides.{nat_tests}
+use Rattle.std.proofs.lemmas.Grind.{common_steps}
 use Rattle.frames.specs.Digits.{is_digit, all_digits}
 use Rattle.frames.specs.Lines.{begun, lines, line_end}
 
@@ -13,6 +15,14 @@ end_after (b ∷ s) h = go (eqb b 10) where
   go : (x : Bool) → 0 < cond x 1 (suc (line_end s))
   go true = omega arith
   go false = omega arith
+
+-- it ends behind the first line feed, or where the sheet ends
+line_end_place : (s : List ℕ) → line_end s ≡ min (position_or_len (λ b. b == 10) s + 1) (length s)
+line_end_place [] = refl
+line_end_place (b ∷ s) = grind (arith, nat_tests, line_end_place s)
+
+pub line_end_found : (s : List ℕ) (r : Option ℕ) (e : ℕ) → r ≡ position (λ b. b == 10) s → MatchOption r (e ≡ length s) (λ i. e ≡ i + 1) → e ≡ line_end s
+line_end_found s r e found h = grind (arith, common_steps, nat_tests, line_end_place s, found, h)
 
 -- the lines of a sheet are its first and those of the rest
 pub first_cut : (s : List ℕ) → 0 < length s → lines s ≡ take (line_end s) s ∷ lines (drop (line_end s) s)

@@ -1,7 +1,8 @@
 -- What the parts of a line say of the whole line.
-use Rattle.std.proofs.Common.{◌≡◌, ℕ, ◌+◌, ◌-◌, ◌*◌, ◌%◌, ◌≤◌, Bool, true, false, cond, ◌&&◌, eqb, List, [], ◌∷◌, length, get_or, take, drop, Some, None, Option, sym, refl, ap, ◌∙◌, arith}
+use Rattle.std.proofs.Common.{◌≡◌, ℕ, ◌+◌, ◌-◌, ◌*◌, ◌%◌, ◌≤◌, Bool, true, false, cond, ◌&&◌, eqb, List, [], ◌∷◌, length, get_or, take, drop, Some, None, Option, Ok, ok_or, sym, refl, ap, ◌∙◌, arith}
 use Rattle.std.proofs.lemmas.List.{length-take-le, length-drop, get_or-take, drop-take, take-take}
-use Rattle.std.proofs.lemmas.Bool.{eq-eqb, ne_eqb, le-leb, and_from, and_parts, eqb-true, cond-true, cond-false}
+use Rattle.repertoire.specs.declared.refusals.Refusal.TheVariants.{UnknownFrame}
+use Rattle.std.proofs.lemmas.Bool.{eq-eqb, le-leb, and_from, and_parts, eqb-true, cond-true}
 use Rattle.frames.specs.declared.kinds.Kind.{Kind}
 use Rattle.frames.specs.Digits.{all_digits, digit_value, value}
 use Rattle.frames.specs.declared.shapes.Frame.{Frame}
@@ -16,6 +17,11 @@ value_two (a ∷ []) h = absurd (omega arith)
 value_two (a ∷ (b ∷ l)) h = two (digit_value a) (digit_value b) where
   two : (x y : ℕ) → (0 * 16 + x) * 16 + y ≡ x * 16 + y
   two x y = omega arith
+
+-- what was there, if that is no refusal
+pub some_from_ok : {T : Type 0} (o : Option T) (x : T) → ok_or o UnknownFrame ≡ Ok x → o ≡ Some x
+some_from_ok (Some y) x h = let same : y ≡ x = cc in ap Some same
+some_from_ok None x h = let z : ◌≡◌ {A = ℕ} 0 1 = cc in absurd (omega arith)
 
 -- A line of at least three bytes, whose digits are all bytes but the last.
 module _ (l : List ℕ) (enough : 3 ≤ length l) where
@@ -41,7 +47,7 @@ module _ (l : List ℕ) (enough : 3 ≤ length l) where
       and_from _ _ (le-leb _ _ enough) (and_from _ _ (eq-eqb _ _ odd) (and_from _ _ p.1 (eq-eqb _ _ feed)))
 
   -- the kind that the two leading digits name
-  pub named : (h w : ℕ) {k : Kind} → h ≡ digit_value (get_or (take (length l - 1) l) 0 0) → w ≡ digit_value (get_or (take (length l - 1) l) 1 0) → coded (h * 16 + w) ≡ Some k → coded (value (take 2 l)) ≡ Some k
+  named : (h w : ℕ) {k : Kind} → h ≡ digit_value (get_or (take (length l - 1) l) 0 0) → w ≡ digit_value (get_or (take (length l - 1) l) 1 0) → coded (h * 16 + w) ≡ Some k → coded (value (take 2 l)) ≡ Some k
   named h w high low e =
       let a : h ≡ digit_value (get_or l 0 0) = high ∙ ap digit_value (get_or-take (length l - 1) l 0 0 (omega arith)) in
       let b : w ≡ digit_value (get_or l 1 0) = low ∙ ap digit_value (get_or-take (length l - 1) l 1 0 (omega arith)) in
@@ -51,10 +57,15 @@ module _ (l : List ℕ) (enough : 3 ≤ length l) where
   pub kind_known : (k : Kind) → coded (value (take 2 l)) ≡ Some k → length l - 3 ≡ body_length k → kind_of l ≡ Some k
   kind_known k e h = let n : length l ≡ 3 + body_length k = omega arith in ap (long (length l)) e ∙ cond-true _ _ _ (eq-eqb _ _ n)
 
-  pub kind_unknown : (k : Kind) → coded (value (take 2 l)) ≡ Some k → (length l - 3 ≡ body_length k → ⊥) → kind_of l ≡ None
-  kind_unknown k e h =
-      let n : length l ≡ 3 + body_length k → ⊥ = λ x. h (omega (arith, x)) in
-      ap (long (length l)) e ∙ cond-false _ _ _ (ne_eqb _ _ n)
+  -- paired digits and a line feed are a frame, of the kind that its first byte names if its length is right
+  pub opened : (h w : ℕ) (k : Kind)
+      → h ≡ digit_value (get_or (take (length l - 1) l) 0 0) → w ≡ digit_value (get_or (take (length l - 1) l) 1 0) → Ok k ≡ ok_or (coded (h * 16 + w)) UnknownFrame
+      → true ≡ (eqb (length (take (length l - 1) l) % 2) 0 && all_digits (take (length l - 1) l)) → get_or l (length l - 1) 0 ≡ 10
+      → (is_frame l ≡ true) × (kind_of l ≡ long (3 + length (take (length (take (length l - 1) l) - 2) (drop 2 (take (length l - 1) l)))) (Some k))
+  opened h w k high low known paired feed =
+      let name = named h w high low (some_from_ok _ k (sym known)) in
+      let size : length l ≡ 3 + length (take (length (take (length l - 1) l) - 2) (drop 2 (take (length l - 1) l))) = omega (arith, ap length body_is, length_body) in
+      (framed (sym paired) feed, ap (long (length l)) name ∙ ap (λ n. long n (Some k)) size)
 
 -- ---- a known kind
 

@@ -14,7 +14,7 @@ use Rattle.frames.specs.Frames.{is_frame, part, code, coded, body_length, kind_o
 use Rattle.frames.specs.Lines.{lines}
 use Rattle.frames.proofs.Cuts.{lines_text}
 use Rattle.frames.proofs.Numerals.{all_digits-append, all_digits-take, all_digits-drop, all_digits-digits, value-digits, digits_value}
-use Rattle.frames.proofs.Reading.{body-drop, kind_known, known_name, length_known_body}
+use Rattle.frames.proofs.Reading.{body-drop, kind_known, some_from_ok, known_name, length_known_body}
 use Rattle.frames.proofs.Writing.{length_digits, length-cost_digits, length_body, length_line}
 
 -- ---- parts
@@ -252,7 +252,4 @@ lines_line e s =
 
 -- what a line that reads back says
 pub said_back : (e : Entry) → ReadsBack e → entry_of (line_of e) ≡ Some e
-said_back e h = go (entry_of (line_of e)) (sym (cond-true (is_frame (line_of e)) _ _ (line_framed e)) ∙ h) where
-  go : (o : Option Entry) → ok_or o UnknownFrame ≡ Ok e → o ≡ Some e
-  go (Some x) h = let same : x ≡ e = cc in ap Some same
-  go None h = let z : ◌≡◌ {A = ℕ} 0 1 = cc in absurd (omega arith)
+said_back e h = some_from_ok (entry_of (line_of e)) e (sym (cond-true (is_frame (line_of e)) _ _ (line_framed e)) ∙ h)

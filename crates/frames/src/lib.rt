@@ -4,7 +4,6 @@
 
 ghost use Rattle.std.specs.Prelude.{◌≡◌, ◌+◌, ◌^◌, ◌<◌, ◌≤◌, length};
 ghost use Rattle.frames.specs.Digits.{is_digit, digit_value, digit_of, value, digits};
-ghost use Rattle.frames.specs.Frames.{code, coded, body_length, over};
 
 mod entries;
 mod kinds;
@@ -19,42 +18,6 @@ pub use lines::first_line;
 pub use parsing::{parse, read};
 pub use printing::write;
 pub use shapes::Frame;
-
-impl Kind {
-    // The first byte of a frame of this kind.
-    fn code(self) -> u8
-        ensures { result ≡ code self }
-    {
-        self as u8
-    }
-
-    // The kind of which this is the first byte.
-    fn coded(byte: u8) -> Option<Kind>
-        ensures { result ≡ coded byte }
-    {
-        match byte {
-            1 => Some(Kind::Header),
-            2 => Some(Kind::Link),
-            3 => Some(Kind::Guide),
-            4 => Some(Kind::Limits),
-            5 => Some(Kind::End),
-            _ => None,
-        }
-    }
-
-    // How many digits stand between the first byte and the line feed.
-    fn body_length(self) -> usize
-        ensures { result ≡ body_length self }
-    {
-        match self {
-            Kind::Header => 12,
-            Kind::Link => 28,
-            Kind::Guide => 20,
-            Kind::Limits => 20,
-            Kind::End => 0,
-        }
-    }
-}
 
 // Whether a byte is a digit, 0-9 or a-f.
 fn is_digit(byte: u8) -> bool

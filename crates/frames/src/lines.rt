@@ -7,12 +7,10 @@ fn line_end(sheet: &[u8]) -> usize
     ensures value { result ≡ line_end sheet.now }
     ensures within { result ≤ length sheet.now }
 {
-    for (i, byte) in sheet.iter().enumerate() {
-        if *byte == b'\n' {
-            return i + 1;
-        }
-    }
-    sheet.len()
+    sheet
+        .iter()
+        .position(|byte| *byte == b'\n')
+        .map_or(sheet.len(), |place| place + 1)
 }
 
 // The first line of a sheet, its line feed included, and what follows it; none where the sheet is empty.

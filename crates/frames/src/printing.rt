@@ -70,7 +70,7 @@ fn put_line(slot: &mut [u8], entry: Entry)
     let kind = entry.kind();
     let (first, rest) = slot.split_at_mut(2);
     let (body, feed) = rest.split_at_mut(kind.body_length());
-    put_number(first, u32::from(kind.code()));
+    put_number(first, u32::from(u8::from(kind)));
     put_body(body, entry);
     feed.copy_from_slice(b"\n");
 }
