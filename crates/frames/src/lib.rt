@@ -39,6 +39,7 @@ fn digit_value(byte: u8) -> u8
 }
 
 // The number that at most eight digits write.
+#[tactic(auto, using(crate::proofs::Powers::power_room))]
 fn number(digits: &[u8]) -> u32
     requires { length digits.now ≤ 8 }
     ensures value { result ≡ value digits.now }

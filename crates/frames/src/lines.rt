@@ -14,6 +14,7 @@ fn line_end(sheet: &[u8]) -> usize
 }
 
 // The first line of a sheet, its line feed included, and what follows it; none where the sheet is empty.
+#[tactic(auto, using(crate::proofs::Cuts::first_cut, crate::proofs::Cuts::end_after))]
 pub fn first_line(sheet: &[u8]) -> Option<(&[u8], &[u8])>
     ensures { elim result [ None ↦ sheet.now ≡ [] | Some v ↦ (lines sheet.now ≡ v.0.now ∷ lines v.1.now) × (length v.1.now < length sheet.now) ] }
 {

@@ -126,6 +126,7 @@ fn cost_of(digits: &[u8]) -> WeaveCost
 }
 
 // What a line of a sheet says, its line feed included.
+#[tactic(auto, using(crate::proofs::Reading::said_is))]
 pub fn read(text: &[u8]) -> Result<Entry, Refusal>
     ensures value { result ≡ read_line text.now }
     ensures again { IfOk result (λ e. line_of e ≡ text.now) }
