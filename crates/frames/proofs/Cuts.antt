@@ -11,10 +11,7 @@ use Rattle.frames.specs.Lines.{begun, lines, line_end}
 -- the first line ends behind its first byte at the earliest
 pub end_after : (s : List ℕ) → 0 < length s → 0 < line_end s
 end_after [] h = absurd (omega arith)
-end_after (b ∷ s) h = go (eqb b 10) where
-  go : (x : Bool) → 0 < cond x 1 (suc (line_end s))
-  go true = omega arith
-  go false = omega arith
+end_after (b ∷ s) h = grind (arith, nat_tests)
 
 -- it ends behind the first line feed, or where the sheet ends
 line_end_place : (s : List ℕ) → line_end s ≡ min (position_or_len (λ b. b == 10) s + 1) (length s)

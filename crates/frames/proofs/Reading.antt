@@ -1,8 +1,9 @@
 -- What the parts of a line say of the whole line.
-use Rattle.std.proofs.Common.{◌≡◌, ℕ, ◌+◌, ◌-◌, ◌*◌, ◌%◌, ◌≤◌, Bool, true, false, cond, ◌&&◌, eqb, List, [], ◌∷◌, length, get_or, take, drop, Some, None, Option, Ok, ok_or, sym, refl, ap, ◌∙◌, arith}
+use Rattle.std.proofs.Common.{◌≡◌, ℕ, ◌+◌, ◌-◌, ◌*◌, ◌%◌, ◌≤◌, true, ◌&&◌, eqb, List, [], ◌∷◌, length, get_or, take, drop, Some, None, Option, Ok, ok_or, sym, refl, ap, ◌∙◌, arith}
 use Rattle.std.proofs.lemmas.List.{length-take-le, length-drop, get_or-take, drop-take, take-take}
 use Rattle.repertoire.specs.declared.refusals.Refusal.TheVariants.{UnknownFrame}
 use Rattle.std.proofs.lemmas.Bool.{eq-eqb, le-leb, and_from, and_parts, eqb-true, cond-true}
+use Rattle.std.proofs.lemmas.Bool.Decides.{nat_tests}
 use Rattle.frames.specs.declared.kinds.Kind.{Kind}
 use Rattle.frames.specs.Digits.{all_digits, digit_value, value}
 use Rattle.frames.specs.declared.shapes.Frame.{Frame}
@@ -20,8 +21,8 @@ value_two (a ∷ (b ∷ l)) h = two (digit_value a) (digit_value b) where
 
 -- what was there, if that is no refusal
 pub some_from_ok : {T : Type 0} (o : Option T) (x : T) → ok_or o UnknownFrame ≡ Ok x → o ≡ Some x
-some_from_ok (Some y) x h = let same : y ≡ x = cc in ap Some same
-some_from_ok None x h = let z : ◌≡◌ {A = ℕ} 0 1 = cc in absurd (omega arith)
+some_from_ok (Some y) x h = grind arith
+some_from_ok None x h = grind arith
 
 -- A line of at least three bytes, whose digits are all bytes but the last.
 module _ (l : List ℕ) (enough : 3 ≤ length l) where
@@ -70,11 +71,8 @@ module _ (l : List ℕ) (enough : 3 ≤ length l) where
 -- ---- a known kind
 
 pub long_known : (n : ℕ) (o : Option Kind) (k : Kind) → long n o ≡ Some k → (o ≡ Some k) × (n ≡ 3 + body_length k)
-long_known n None k e = let z : ◌≡◌ {A = ℕ} 0 1 = cc in absurd (omega arith)
-long_known n (Some j) k e = go (eqb n (3 + body_length j)) refl e where
-  go : (x : Bool) → eqb n (3 + body_length j) ≡ x → cond x (Some j) None ≡ Some k → (Some j ≡ Some k) × (n ≡ 3 + body_length k)
-  go true t e = let same : j ≡ k = cc in (e, eqb-true _ _ t ∙ ap (λ i. 3 + body_length i) same)
-  go false t e = let z : ◌≡◌ {A = ℕ} 0 1 = cc in absurd (omega arith)
+long_known n None k e = grind arith
+long_known n (Some j) k e = grind (arith, nat_tests)
 
 pub known_name : (l : List ℕ) (k : Kind) → kind_of l ≡ Some k → coded (value (take 2 l)) ≡ Some k
 known_name l k e = (long_known (length l) (coded (value (take 2 l))) k e).0

@@ -2,6 +2,7 @@
 use Rattle.std.proofs.Common.{◌≡◌, ℕ, ◌+◌, ◌-◌, ◌%◌, ◌^◌, ◌<◌, ◌≤◌, Bool, true, false, cond, eqb, leb, List, [], ◌∷◌, ◌++◌, length, get_or, take, drop, Some, None, Ok, Err, Option, sym, refl, ap, ◌∙◌, arith}
 use Rattle.std.proofs.lemmas.List.{append_assoc, length-append, length_push, length-take-le, length-drop, take_at, drop_at, drop-drop, take-append-drop, take_all, get_or_push, drop_more, drop_all, take-take, nil_from_length}
 use Rattle.std.proofs.lemmas.Bool.{and_parts, and_from, le-leb, leb-true, eq-eqb, eqb-true, cond-true}
+use Rattle.std.proofs.lemmas.Bool.Decides.{nat_tests}
 use Rattle.std.specs.Option.{option_map, ok_or}
 use Rattle.scale.specs.Weave.{WeaveCost}
 use Rattle.repertoire.specs.declared.refusals.Refusal.TheVariants.{NotAFrame, UnknownFrame}
@@ -124,37 +125,17 @@ kind_again kind.Limits b = refl
 kind_again kind.End b = refl
 
 code_back : (k : Kind) → coded (code k) ≡ Some k
-code_back kind.Header = refl
-code_back kind.Link = refl
-code_back kind.Guide = refl
-code_back kind.Limits = refl
-code_back kind.End = refl
+code_back k = grind arith
 
 code_small : (k : Kind) → code k < 16 ^ 2
-code_small kind.Header = omega arith
-code_small kind.Link = omega arith
-code_small kind.Guide = omega arith
-code_small kind.Limits = omega arith
-code_small kind.End = omega arith
+code_small k = grind arith
 
 even_body : (k : Kind) → body_length k % 2 ≡ 0
-even_body kind.Header = refl
-even_body kind.Link = refl
-even_body kind.Guide = refl
-even_body kind.Limits = refl
-even_body kind.End = refl
+even_body k = grind arith
 
 -- only that byte names a kind
 code_again : (n : ℕ) (k : Kind) → coded n ≡ Some k → n ≡ code k
-code_again n k e = either kind.Header (either kind.Link (either kind.Guide (either kind.Limits (either kind.End none)))) e where
-  either : (j : Kind) {rest : Option Kind} → (rest ≡ Some k → n ≡ code k) → cond (eqb n (code j)) (Some j) rest ≡ Some k → n ≡ code k
-  either j {rest} other e = go (eqb n (code j)) refl e where
-    go : (x : Bool) → eqb n (code j) ≡ x → cond x (Some j) rest ≡ Some k → n ≡ code k
-    go true t e = let same : j ≡ k = cc in eqb-true _ _ t ∙ ap code same
-    go false t e = other e
-
-  none : None ≡ Some k → n ≡ code k
-  none e = let z : ◌≡◌ {A = ℕ} 0 1 = cc in absurd (omega arith)
+code_again n k e = grind (arith, nat_tests)
 
 -- ---- lines
 
