@@ -1,5 +1,5 @@
 -- A sheet and its first line.
-use Rattle.std.proofs.Common.{◌≡◌, ℕ, suc, ◌<◌, ◌+◌, ◌==◌, Option, min, Bool, true, false, cond, eqb, List, [], ◌∷◌, ◌++◌, length, take, drop, refl, ap, ◌∙◌, arith}
+use Rattle.std.proofs.Common.{◌≡◌, ℕ, ◌<◌, ◌+◌, ◌==◌, Option, min, true, false, eqb, List, [], ◌∷◌, ◌++◌, length, take, drop, refl, ap, ◌∙◌, arith}
 use Rattle.std.specs.List.{flat_map, position, position_or_len}
 use Rattle.std.specs.Option.{MatchOption}
 use Rattle.std.proofs.lemmas.Bool.{and_parts, cond-false}
@@ -25,14 +25,8 @@ line_end_found s r e found h = grind (arith, common_steps, nat_tests, line_end_p
 pub first_cut : (s : List ℕ) → 0 < length s → lines s ≡ take (line_end s) s ∷ lines (drop (line_end s) s)
 unfolding lines
 first_cut [] h = absurd (omega arith)
-first_cut (b ∷ []) h = go (eqb b 10) where
-  go : (x : Bool) → cond x ((b ∷ []) ∷ []) ((b ∷ []) ∷ []) ≡ take (cond x 1 1) (b ∷ []) ∷ lines (drop (cond x 1 1) (b ∷ []))
-  go true = refl
-  go false = refl
-first_cut (b ∷ (c ∷ s)) h = go (first_cut (c ∷ s) (omega arith)) (eqb b 10) where
-  go : lines (c ∷ s) ≡ take (line_end (c ∷ s)) (c ∷ s) ∷ lines (drop (line_end (c ∷ s)) (c ∷ s)) → (x : Bool) → cond x ((b ∷ []) ∷ lines (c ∷ s)) (begun b (lines (c ∷ s))) ≡ take (cond x 1 (suc (line_end (c ∷ s)))) (b ∷ (c ∷ s)) ∷ lines (drop (cond x 1 (suc (line_end (c ∷ s)))) (b ∷ (c ∷ s)))
-  go e true = refl
-  go e false = ap (begun b) e
+first_cut (b ∷ []) h = grind (arith, nat_tests)
+first_cut (b ∷ (c ∷ s)) h = grind (arith, nat_tests, first_cut (c ∷ s) (omega arith))
 
 -- ---- the lines together are the sheet
 
@@ -43,10 +37,7 @@ joined_begun b (l ∷ ls) = refl
 pub lines_joined : (s : List ℕ) → flat_map (λ l. l) (lines s) ≡ s
 unfolding lines
 lines_joined [] = refl
-lines_joined (b ∷ s) = go (lines_joined s) (eqb b 10) where
-  go : flat_map (λ l. l) (lines s) ≡ s → (x : Bool) → flat_map (λ l. l) (cond x ((b ∷ []) ∷ lines s) (begun b (lines s))) ≡ b ∷ s
-  go e true = ap (λ r. b ∷ r) e
-  go e false = joined_begun b (lines s) ∙ ap (λ r. b ∷ r) e
+lines_joined (b ∷ s) = grind (arith, joined_begun b (lines s), lines_joined s)
 
 -- ---- a line that was written is the first line
 

@@ -1,5 +1,5 @@
 -- What the parts of a line say of the whole line.
-use Rattle.std.proofs.Common.{◌≡◌, ℕ, ◌+◌, ◌-◌, ◌*◌, ◌%◌, ◌≤◌, true, ◌&&◌, eqb, List, [], ◌∷◌, length, get_or, take, drop, Some, None, Option, Ok, ok_or, sym, refl, ap, ◌∙◌, arith}
+use Rattle.std.proofs.Common.{◌≡◌, ℕ, ◌+◌, ◌-◌, ◌*◌, ◌%◌, ◌≤◌, true, ◌&&◌, eqb, List, [], ◌∷◌, length, get_or, take, drop, Some, None, Option, Ok, ok_or, sym, ap, ◌∙◌, arith}
 use Rattle.std.proofs.lemmas.List.{length-take-le, length-drop, get_or-take, drop-take, take-take}
 use Rattle.repertoire.specs.declared.refusals.Refusal.TheVariants.{UnknownFrame}
 use Rattle.std.proofs.lemmas.Bool.{eq-eqb, le-leb, and_from, and_parts, eqb-true, cond-true}
@@ -8,8 +8,7 @@ use Rattle.frames.specs.declared.kinds.Kind.{Kind}
 use Rattle.frames.specs.Digits.{all_digits, digit_value, value}
 use Rattle.frames.specs.declared.shapes.Frame.{Frame}
 use Rattle.frames.specs.declared.shapes.Frame.TheVariants as frame
-use Rattle.frames.specs.declared.entries.Entry.TheVariants as entry
-use Rattle.frames.specs.Frames.{is_frame, coded, body_length, long, kind_of, part, body_of, cost_of, entry_at, frame_kind, Parted, Whole, said}
+use Rattle.frames.specs.Frames.{is_frame, coded, body_length, long, kind_of, part, body_of, entry_at, frame_kind, Parted, Whole, said}
 
 -- the first byte of a line
 pub value_two : (l : List ℕ) → 2 ≤ length l → value (take 2 l) ≡ digit_value (get_or l 0 0) * 16 + digit_value (get_or l 1 0)
@@ -89,17 +88,15 @@ length_part : (i n : ℕ) (b : List ℕ) → i + n ≤ length b → length (part
 length_part i n b h = length-take-le n (drop i b) (omega (arith, length-drop i b))
 
 pub whole : (f : Frame) (b : List ℕ) (p : ℕ) → Parted b p f → length b ≡ body_length (frame_kind f) → Whole f
-whole (frame.Header m s g p) b q h e =
-    (ap length h.0 ∙ length_part 0 4 b (omega arith), ap length h.1 ∙ length_part 4 4 b (omega arith), ap length h.2 ∙ length_part 8 4 b (omega arith))
-whole (frame.Link m s g p) b q h e =
-    (ap length h.0 ∙ length_part 0 4 b (omega arith), ap length h.1 ∙ length_part 4 4 b (omega arith), ap length h.2 ∙ length_part 8 20 b (omega arith))
-whole (frame.Guide c p) b q h e = ap length h.0 ∙ e
-whole (frame.Limits c p) b q h e = ap length h.0 ∙ e
+whole (frame.Header m s g p) b q h e = (rw h.0 (length_part 0 4 b (omega arith)), rw h.1 (length_part 4 4 b (omega arith)), rw h.2 (length_part 8 4 b (omega arith)))
+whole (frame.Link m s g p) b q h e = (rw h.0 (length_part 0 4 b (omega arith)), rw h.1 (length_part 4 4 b (omega arith)), rw h.2 (length_part 8 20 b (omega arith)))
+whole (frame.Guide c p) b q h e = grind arith
+whole (frame.Limits c p) b q h e = grind arith
 whole (frame.End p) b q h e = tt
 
 pub said_is : (f : Frame) (b : List ℕ) (p : ℕ) → Parted b p f → said f ≡ entry_at (frame_kind f) b
-said_is (frame.Header m s g p) b q h = λ i. entry.Header (record { motifs = value (h.0 i); start = value (h.1 i); goal = value (h.2 i) })
-said_is (frame.Link m s g p) b q h = λ i. entry.Link (record { from = value (h.0 i); to = value (h.1 i); cost = cost_of (h.2 i) })
-said_is (frame.Guide c p) b q h = ap (λ x. entry.Guide (cost_of x)) h.0
-said_is (frame.Limits c p) b q h = ap (λ x. entry.Limits (cost_of x)) h.0
-said_is (frame.End p) b q h = refl
+said_is (frame.Header m s g p) b q h = grind arith
+said_is (frame.Link m s g p) b q h = grind arith
+said_is (frame.Guide c p) b q h = grind arith
+said_is (frame.Limits c p) b q h = grind arith
+said_is (frame.End p) b q h = grind arith

@@ -3,6 +3,7 @@ use Rattle.std.proofs.Common.{◌≡◌, ℕ, ◌+◌, ◌-◌, ◌%◌, ◌^◌
 use Rattle.std.proofs.lemmas.List.{append_assoc, length-append, length_push, length-take-le, length-drop, take_at, drop_at, drop-drop, take-append-drop, take_all, get_or_push, drop_more, drop_all, take-take, nil_from_length}
 use Rattle.std.proofs.lemmas.Bool.{and_parts, and_from, le-leb, leb-true, eq-eqb, eqb-true, cond-true}
 use Rattle.std.proofs.lemmas.Bool.Decides.{nat_tests}
+use Rattle.std.proofs.lemmas.List.Folds.{list_all-append}
 use Rattle.std.specs.Option.{option_map, ok_or}
 use Rattle.scale.specs.Weave.{WeaveCost}
 use Rattle.repertoire.specs.declared.refusals.Refusal.TheVariants.{NotAFrame, UnknownFrame}
@@ -50,10 +51,7 @@ all_digits_cost c = three_numbers 4 8 8 c.first.value c.second.first.bits c.seco
 
 all_digits_body : (e : Entry) → all_digits (body e) ≡ true
 all_digits_body (entry.Header h) = three_numbers 4 4 4 h.motifs h.start h.goal
-all_digits_body (entry.Link l) =
-    let u = digits 4 l.from in
-    let v = digits 4 l.to in
-    all_digits-append u (v ++ cost_digits l.cost) (all_digits-digits 4 l.from) (all_digits-append v (cost_digits l.cost) (all_digits-digits 4 l.to) (all_digits_cost l.cost))
+all_digits_body (entry.Link l) = grind (arith, list_all-append, all_digits-digits, all_digits_cost l.cost)
 all_digits_body (entry.Guide c) = all_digits_cost c
 all_digits_body (entry.Limits c) = all_digits_cost c
 all_digits_body entry.End = refl
@@ -118,11 +116,7 @@ body_again kind.Limits b e d = cost_again b e d
 body_again kind.End b e d = sym (nil_from_length b e)
 
 pub kind_again : (k : Kind) (b : List ℕ) → entry_kind (entry_at k b) ≡ k
-kind_again kind.Header b = refl
-kind_again kind.Link b = refl
-kind_again kind.Guide b = refl
-kind_again kind.Limits b = refl
-kind_again kind.End b = refl
+kind_again k b = grind arith
 
 code_back : (k : Kind) → coded (code k) ≡ Some k
 code_back k = grind arith
@@ -185,9 +179,9 @@ module _ (l : List ℕ) (framed : is_frame l ≡ true) where
 pub read_again : (l : List ℕ) (e : Entry) → read_line l ≡ Ok e → line_of e ≡ l
 read_again l e h = go (is_frame l) refl (kind_of l) refl h where
   go : (x : Bool) → is_frame l ≡ x → (o : Option Kind) → kind_of l ≡ o → cond x (ok_or (option_map (λ k. entry_at k (body_of l)) o) UnknownFrame) (Err NotAFrame) ≡ Ok e → line_of e ≡ l
-  go true t (Some k) s h = let same : entry_at k (body_of l) ≡ e = cc in ap line_of (sym same) ∙ line_again l t k s
-  go true t None s h = let z : ◌≡◌ {A = ℕ} 0 1 = cc in absurd (omega arith)
-  go false t o s h = let z : ◌≡◌ {A = ℕ} 0 1 = cc in absurd (omega arith)
+  go true t (Some k) s h = grind (arith, line_again l t k s)
+  go true t None s h = grind arith
+  go false t o s h = grind arith
 
 -- what was written is a frame, of its kind
 pub line_framed : (e : Entry) → is_frame (line_of e) ≡ true

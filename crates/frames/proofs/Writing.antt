@@ -1,11 +1,11 @@
 -- Writing over a buffer.
-use Rattle.std.proofs.Common.{◌≡◌, ℕ, zero, suc, ◌+◌, ◌/◌, ◌%◌, ◌≤◌, List, [], ◌∷◌, ◌++◌, length, take, drop, sym, refl, ap, ◌∙◌, add-zero, arith}
+use Rattle.std.proofs.Common.{◌≡◌, ℕ, zero, suc, ◌+◌, ◌/◌, ◌%◌, ◌≤◌, List, [], ◌++◌, length, take, drop, sym, refl, ap, ◌∙◌, add-zero, arith}
 use Rattle.std.proofs.lemmas.List.{append_assoc, length-append, length-take-le, length_push, take-append-drop, take_at, drop_at, drop-drop}
 use Rattle.frames.specs.Digits.{digit_of, digits}
 use Rattle.scale.specs.Weave.{WeaveCost}
 use Rattle.frames.specs.declared.entries.Entry.{Entry}
 use Rattle.frames.specs.declared.entries.Entry.TheVariants as entry
-use Rattle.frames.specs.Frames.{code, body_length, entry_kind, cost_digits, body, line_of, over}
+use Rattle.frames.specs.Frames.{body_length, entry_kind, cost_digits, body, line_of, over}
 
 pub length_digits : (w n : ℕ) → length (digits w n) ≡ w
 unfolding digits
@@ -33,28 +33,15 @@ over-over b v w i n e h =
 -- ---- lengths
 
 pub length-cost_digits : (c : WeaveCost) → length (cost_digits c) ≡ 20
-length-cost_digits c =
-    let u = digits 4 c.first.value in
-    let v = digits 8 c.second.first.bits in
-    let w = digits 8 c.second.second.value in
-    omega (arith, length-append u (v ++ w), length-append v w, length_digits 4 c.first.value, length_digits 8 c.second.first.bits, length_digits 8 c.second.second.value)
+length-cost_digits c = grind (arith, length-append, length_digits)
 
 pub length_body : (e : Entry) → length (body e) ≡ body_length (entry_kind e)
-length_body (entry.Header h) =
-    let u = digits 4 h.motifs in
-    let v = digits 4 h.start in
-    let w = digits 4 h.goal in
-    omega (arith, length-append u (v ++ w), length-append v w, length_digits 4 h.motifs, length_digits 4 h.start, length_digits 4 h.goal)
-length_body (entry.Link l) =
-    let u = digits 4 l.from in
-    let v = digits 4 l.to in
-    omega (arith, length-append u (v ++ cost_digits l.cost), length-append v (cost_digits l.cost), length_digits 4 l.from, length_digits 4 l.to, length-cost_digits l.cost)
+length_body (entry.Header h) = grind (arith, length-append, length_digits)
+length_body (entry.Link l) = grind (arith, length-append, length_digits, length-cost_digits)
 length_body (entry.Guide c) = length-cost_digits c
 length_body (entry.Limits c) = length-cost_digits c
 length_body entry.End = refl
 
 pub length_line : (e : Entry) → length (line_of e) ≡ 3 + body_length (entry_kind e)
 unfolding line_of
-length_line e =
-    let k = code (entry_kind e) in
-    omega (arith, length-append (digits 2 k) (body e ++ (10 ∷ [])), length_push (body e) 10, length_digits 2 k, length_body e)
+length_line e = grind (arith, length-append, length_digits, length_body)
