@@ -2,13 +2,15 @@
 use Rattle.std.proofs.Common.{◌≡◌, ℕ, ◌+◌, ◌-◌, ◌*◌, ◌%◌, ◌≤◌, true, ◌&&◌, eqb, List, [], ◌∷◌, length, get_or, take, drop, Some, None, Option, Ok, ok_or, sym, ap, ◌∙◌, arith}
 use Rattle.std.proofs.lemmas.List.{length-take-le, length-drop, get_or-take, drop-take, take-take}
 use Rattle.repertoire.specs.declared.refusals.Refusal.TheVariants.{UnknownFrame}
-use Rattle.std.proofs.lemmas.Bool.{eq-eqb, le-leb, and_from, and_parts, eqb-true, cond-true}
 use Rattle.std.proofs.lemmas.Bool.Decides.{nat_tests}
 use Rattle.frames.specs.declared.kinds.Kind.{Kind}
 use Rattle.frames.specs.Digits.{all_digits, digit_value, value}
 use Rattle.frames.specs.declared.shapes.Frame.{Frame}
 use Rattle.frames.specs.declared.shapes.Frame.TheVariants as frame
 use Rattle.frames.specs.Frames.{is_frame, coded, body_length, long, kind_of, part, body_of, entry_at, frame_kind, Parted, Whole, said}
+
+pub length_part : (i n : ℕ) (b : List ℕ) → i + n ≤ length b → length (part i n b) ≡ n
+length_part i n b h = length-take-le n (drop i b) (omega (arith, length-drop i b))
 
 -- the first byte of a line
 pub value_two : (l : List ℕ) → 2 ≤ length l → value (take 2 l) ≡ digit_value (get_or l 0 0) * 16 + digit_value (get_or l 1 0)
@@ -37,14 +39,10 @@ module _ (l : List ℕ) (enough : 3 ≤ length l) where
       ap (λ k. take k (drop 2 (take (length l - 1) l))) n ∙ ap (take (length l - 3)) body-drop ∙ take-take (length l - 3) (length l - 3) (drop 2 l) (omega arith)
 
   pub length_body : length (body_of l) ≡ length l - 3
-  length_body = length-take-le (length l - 3) (drop 2 l) (omega (arith, length-drop 2 l))
+  length_body = length_part 2 (length l - 3) l (omega arith)
 
   pub framed : (eqb (length (take (length l - 1) l) % 2) 0 && all_digits (take (length l - 1) l)) ≡ true → get_or l (length l - 1) 0 ≡ 10 → is_frame l ≡ true
-  framed paired feed =
-      let p = and_parts _ _ paired in
-      let even : length (take (length l - 1) l) % 2 ≡ 0 = eqb-true _ _ p.0 in
-      let odd : length l % 2 ≡ 1 = omega (arith, digits_length) in
-      and_from _ _ (le-leb _ _ enough) (and_from _ _ (eq-eqb _ _ odd) (and_from _ _ p.1 (eq-eqb _ _ feed)))
+  framed paired feed = grind (arith, nat_tests, digits_length)
 
   -- the kind that the two leading digits name
   named : (h w : ℕ) {k : Kind} → h ≡ digit_value (get_or (take (length l - 1) l) 0 0) → w ≡ digit_value (get_or (take (length l - 1) l) 1 0) → coded (h * 16 + w) ≡ Some k → coded (value (take 2 l)) ≡ Some k
@@ -55,7 +53,7 @@ module _ (l : List ℕ) (enough : 3 ≤ length l) where
       ap coded (sym byte) ∙ e
 
   pub kind_known : (k : Kind) → coded (value (take 2 l)) ≡ Some k → length l - 3 ≡ body_length k → kind_of l ≡ Some k
-  kind_known k e h = let n : length l ≡ 3 + body_length k = omega arith in ap (long (length l)) e ∙ cond-true _ _ _ (eq-eqb _ _ n)
+  kind_known k e h = grind (arith, nat_tests)
 
   -- paired digits and a line feed are a frame, of the kind that its first byte names if its length is right
   pub opened : (h w : ℕ) (k : Kind)
@@ -84,9 +82,6 @@ length_known_body l k e = let n = known_length l k e in let m : 3 ≤ length l =
 
 -- ---- a frame and the digits behind its first byte
 
-length_part : (i n : ℕ) (b : List ℕ) → i + n ≤ length b → length (part i n b) ≡ n
-length_part i n b h = length-take-le n (drop i b) (omega (arith, length-drop i b))
-
 pub whole : (f : Frame) (b : List ℕ) (p : ℕ) → Parted b p f → length b ≡ body_length (frame_kind f) → Whole f
 whole (frame.Header m s g p) b q h e = (rw h.0 (length_part 0 4 b (omega arith)), rw h.1 (length_part 4 4 b (omega arith)), rw h.2 (length_part 8 4 b (omega arith)))
 whole (frame.Link m s g p) b q h e = (rw h.0 (length_part 0 4 b (omega arith)), rw h.1 (length_part 4 4 b (omega arith)), rw h.2 (length_part 8 20 b (omega arith)))
@@ -95,8 +90,4 @@ whole (frame.Limits c p) b q h e = grind arith
 whole (frame.End p) b q h e = tt
 
 pub said_is : (f : Frame) (b : List ℕ) (p : ℕ) → Parted b p f → said f ≡ entry_at (frame_kind f) b
-said_is (frame.Header m s g p) b q h = grind arith
-said_is (frame.Link m s g p) b q h = grind arith
-said_is (frame.Guide c p) b q h = grind arith
-said_is (frame.Limits c p) b q h = grind arith
-said_is (frame.End p) b q h = grind arith
+said_is f b q h = grind arith

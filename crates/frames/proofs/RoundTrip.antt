@@ -1,8 +1,9 @@
 -- A line that was written reads back, and a line that was read is written again.
-use Rattle.std.proofs.Common.{◌≡◌, ℕ, ◌+◌, ◌-◌, ◌%◌, ◌^◌, ◌<◌, ◌≤◌, Bool, true, false, cond, eqb, leb, List, [], ◌∷◌, ◌++◌, length, get_or, take, drop, Some, None, Ok, Err, Option, sym, refl, ap, ◌∙◌, arith}
-use Rattle.std.proofs.lemmas.List.{append_assoc, length-append, length_push, length-take-le, length-drop, take_at, drop_at, drop-drop, take-append-drop, take_all, get_or_push, drop_more, drop_all, take-take, nil_from_length}
-use Rattle.std.proofs.lemmas.Bool.{and_parts, and_from, le-leb, leb-true, eq-eqb, eqb-true, cond-true}
+use Rattle.std.proofs.Common.{◌≡◌, ℕ, ◌+◌, ◌-◌, ◌%◌, ◌^◌, ◌<◌, ◌≤◌, Bool, true, false, cond, List, [], ◌∷◌, ◌++◌, length, get_or, take, drop, Some, None, Ok, Err, Option, sym, refl, ap, ◌∙◌, arith}
+use Rattle.std.proofs.lemmas.List.{append_assoc, length-append, length-take-le, length-drop, take_at, drop_at, drop-drop, take-append-drop, take_all, drop_more, drop_all, take-take, nil_from_length}
+use Rattle.std.proofs.lemmas.Bool.{cond-true}
 use Rattle.std.proofs.lemmas.Bool.Decides.{nat_tests}
+use Rattle.std.proofs.lemmas.Grind.{common_steps}
 use Rattle.std.proofs.lemmas.List.Folds.{list_all-append}
 use Rattle.std.specs.Option.{option_map, ok_or}
 use Rattle.scale.specs.Weave.{WeaveCost}
@@ -16,20 +17,15 @@ use Rattle.frames.specs.Frames.{is_frame, part, code, coded, body_length, kind_o
 use Rattle.frames.specs.Lines.{lines}
 use Rattle.frames.proofs.Cuts.{lines_text}
 use Rattle.frames.proofs.Numerals.{all_digits-append, all_digits-take, all_digits-drop, all_digits-digits, value-digits, digits_value}
-use Rattle.frames.proofs.Reading.{body-drop, kind_known, some_from_ok, known_name, length_known_body}
+use Rattle.frames.proofs.Reading.{body-drop, length_part, kind_known, some_from_ok, known_name, length_known_body}
 use Rattle.frames.proofs.Writing.{length_digits, length-cost_digits, length_body, length_line}
 
 -- ---- parts
 
--- the first part of a text, and a part behind the first
-part_first : (n : ℕ) (u v : List ℕ) → length u ≡ n → part 0 n (u ++ v) ≡ u
-part_first n u v e = take_at u v n e
-
-part_behind : (i j n : ℕ) (u v : List ℕ) → length u ≡ i → part (i + j) n (u ++ v) ≡ part j n v
-part_behind i j n u v e = ap (take n) (sym (drop-drop j i (u ++ v)) ∙ ap (drop j) (drop_at u v i e))
-
-part_whole : (n : ℕ) (u : List ℕ) → length u ≡ n → part 0 n u ≡ u
-part_whole n u e = take_all n u (omega arith)
+-- three texts, taken apart again
+parts_back : (m n r : ℕ) (u v w : List ℕ) → length u ≡ m → length v ≡ n → length w ≡ r
+  → (part 0 m (u ++ (v ++ w)) ≡ u) × (part m n (u ++ (v ++ w)) ≡ v) × (part (m + n) r (u ++ (v ++ w)) ≡ w)
+parts_back m n r u v w lu lv lw = (grind (arith, common_steps), grind (arith, common_steps), grind (arith, common_steps, drop-drop n m (u ++ (v ++ w))))
 
 -- a text in three parts
 three_parts : (b : List ℕ) (m n r : ℕ) → length b ≡ m + n + r → part 0 m b ++ (part m n b ++ part (m + n) r b) ≡ b
@@ -39,7 +35,24 @@ three_parts b m n r e =
     ap (λ x. part 0 m b ++ x) rest ∙ take-append-drop m b
 
 part_digits : (i n : ℕ) (b : List ℕ) → i + n ≤ length b → all_digits b ≡ true → digits n (value (part i n b)) ≡ part i n b
-part_digits i n b h d = digits_value n (part i n b) (length-take-le n (drop i b) (omega (arith, length-drop i b))) (all_digits-take n (drop i b) (all_digits-drop i b d))
+part_digits i n b h d = digits_value n (part i n b) (length_part i n b h) (all_digits-take n (drop i b) (all_digits-drop i b d))
+
+-- ---- three numbers
+
+numbers_back : (a b c x y z : ℕ) → x < 16 ^ a → y < 16 ^ b → z < 16 ^ c
+  → (value (part 0 a (digits a x ++ (digits b y ++ digits c z))) ≡ x) × (value (part a b (digits a x ++ (digits b y ++ digits c z))) ≡ y)
+    × (value (part (a + b) c (digits a x ++ (digits b y ++ digits c z))) ≡ z)
+numbers_back a b c x y z h k l =
+    let p = parts_back a b c (digits a x) (digits b y) (digits c z) (length_digits a x) (length_digits b y) (length_digits c z) in
+    (ap value p.0 ∙ value-digits a x h, ap value p.1 ∙ value-digits b y k, ap value p.2 ∙ value-digits c z l)
+
+numbers_again : (a b c : ℕ) (t : List ℕ) → length t ≡ a + b + c → all_digits t ≡ true
+  → digits a (value (part 0 a t)) ++ (digits b (value (part a b t)) ++ digits c (value (part (a + b) c t))) ≡ t
+numbers_again a b c t e d =
+    let x = part_digits 0 a t (omega arith) d in
+    let y = part_digits a b t (omega arith) d in
+    let z = part_digits (a + b) c t (omega arith) d in
+    (λ i. x i ++ (y i ++ z i)) ∙ three_parts t a b c e
 
 -- ---- bodies
 
@@ -58,58 +71,32 @@ all_digits_body entry.End = refl
 
 cost_back : (c : WeaveCost) → CostFits c → cost_of (cost_digits c) ≡ c
 cost_back c h =
-    let u = digits 4 c.first.value in
-    let v = digits 8 c.second.first.bits in
-    let w = digits 8 c.second.second.value in
-    let float : value (part 0 4 (u ++ (v ++ w))) ≡ c.first.value = ap value (part_first 4 u (v ++ w) (length_digits 4 _)) ∙ value-digits 4 _ h.0 in
-    let yarns : value (part 4 8 (u ++ (v ++ w))) ≡ c.second.first.bits =
-    ap value (part_behind 4 0 8 u (v ++ w) (length_digits 4 _) ∙ part_first 8 v w (length_digits 8 _)) ∙ value-digits 8 _ h.1 in
-    let picks : value (part 12 8 (u ++ (v ++ w))) ≡ c.second.second.value =
-    ap value (part_behind 4 8 8 u (v ++ w) (length_digits 4 _) ∙ part_behind 8 0 8 v w (length_digits 8 _) ∙ part_whole 8 w (length_digits 8 _)) ∙ value-digits 8 _ h.2 in
-    λ i. record { first = record { value = float i }; second = record { first = record { bits = yarns i }; second = record { value = picks i } } }
+    let p = numbers_back 4 8 8 c.first.value c.second.first.bits c.second.second.value h.0 h.1 h.2 in
+    λ i. record { first = record { value = p.0 i }; second = record { first = record { bits = p.1 i }; second = record { value = p.2 i } } }
 
 entry_back : (e : Entry) → EntryFits e → entry_at (entry_kind e) (body e) ≡ e
 entry_back (entry.Header x) h =
-    let u = digits 4 x.motifs in
-    let v = digits 4 x.start in
-    let w = digits 4 x.goal in
-    let motifs : value (part 0 4 (u ++ (v ++ w))) ≡ x.motifs = ap value (part_first 4 u (v ++ w) (length_digits 4 _)) ∙ value-digits 4 _ h.0 in
-    let start : value (part 4 4 (u ++ (v ++ w))) ≡ x.start =
-    ap value (part_behind 4 0 4 u (v ++ w) (length_digits 4 _) ∙ part_first 4 v w (length_digits 4 _)) ∙ value-digits 4 _ h.1 in
-    let goal : value (part 8 4 (u ++ (v ++ w))) ≡ x.goal =
-    ap value (part_behind 4 4 4 u (v ++ w) (length_digits 4 _) ∙ part_behind 4 0 4 v w (length_digits 4 _) ∙ part_whole 4 w (length_digits 4 _)) ∙ value-digits 4 _ h.2 in
-    λ i. entry.Header (record { motifs = motifs i; start = start i; goal = goal i })
+    let p = numbers_back 4 4 4 x.motifs x.start x.goal h.0 h.1 h.2 in
+    λ i. entry.Header (record { motifs = p.0 i; start = p.1 i; goal = p.2 i })
 entry_back (entry.Link x) h =
-    let u = digits 4 x.from in
-    let v = digits 4 x.to in
-    let w = cost_digits x.cost in
-    let from : value (part 0 4 (u ++ (v ++ w))) ≡ x.from = ap value (part_first 4 u (v ++ w) (length_digits 4 _)) ∙ value-digits 4 _ h.0 in
-    let to : value (part 4 4 (u ++ (v ++ w))) ≡ x.to =
-    ap value (part_behind 4 0 4 u (v ++ w) (length_digits 4 _) ∙ part_first 4 v w (length_digits 4 _)) ∙ value-digits 4 _ h.1 in
-    let cost : cost_of (part 8 20 (u ++ (v ++ w))) ≡ x.cost =
-    ap cost_of (part_behind 4 4 20 u (v ++ w) (length_digits 4 _) ∙ part_behind 4 0 20 v w (length_digits 4 _) ∙ part_whole 20 w (length-cost_digits x.cost)) ∙ cost_back x.cost h.2 in
+    let p = parts_back 4 4 20 (digits 4 x.from) (digits 4 x.to) (cost_digits x.cost) (length_digits 4 _) (length_digits 4 _) (length-cost_digits _) in
+    let from = ap value p.0 ∙ value-digits 4 x.from h.0 in
+    let to = ap value p.1 ∙ value-digits 4 x.to h.1 in
+    let cost = ap cost_of p.2 ∙ cost_back x.cost h.2 in
     λ i. entry.Link (record { from = from i; to = to i; cost = cost i })
 entry_back (entry.Guide c) h = ap entry.Guide (cost_back c h)
 entry_back (entry.Limits c) h = ap entry.Limits (cost_back c h)
 entry_back entry.End h = refl
 
 cost_again : (b : List ℕ) → length b ≡ 20 → all_digits b ≡ true → cost_digits (cost_of b) ≡ b
-cost_again b e d =
-    let float = part_digits 0 4 b (omega arith) d in
-    let yarns = part_digits 4 8 b (omega arith) d in
-    let picks = part_digits 12 8 b (omega arith) d in
-    (λ i. float i ++ (yarns i ++ picks i)) ∙ three_parts b 4 8 8 e
+cost_again b e d = numbers_again 4 8 8 b e d
 
 body_again : (k : Kind) (b : List ℕ) → length b ≡ body_length k → all_digits b ≡ true → body (entry_at k b) ≡ b
-body_again kind.Header b e d =
-    let motifs = part_digits 0 4 b (omega arith) d in
-    let start = part_digits 4 4 b (omega arith) d in
-    let goal = part_digits 8 4 b (omega arith) d in
-    (λ i. motifs i ++ (start i ++ goal i)) ∙ three_parts b 4 4 4 e
+body_again kind.Header b e d = numbers_again 4 4 4 b e d
 body_again kind.Link b e d =
     let from = part_digits 0 4 b (omega arith) d in
     let to = part_digits 4 4 b (omega arith) d in
-    let cost = cost_again (part 8 20 b) (length-take-le 20 (drop 8 b) (omega (arith, length-drop 8 b))) (all_digits-take 20 (drop 8 b) (all_digits-drop 8 b d)) in
+    let cost = cost_again (part 8 20 b) (length_part 8 20 b (omega arith)) (all_digits-take 20 (drop 8 b) (all_digits-drop 8 b d)) in
     (λ i. from i ++ (to i ++ cost i)) ∙ three_parts b 4 4 20 e
 body_again kind.Guide b e d = cost_again b e d
 body_again kind.Limits b e d = cost_again b e d
@@ -135,24 +122,17 @@ code_again n k e = grind (arith, nat_tests)
 
 -- digits and a line feed
 framed_text : (t : List ℕ) → 2 ≤ length t → length t % 2 ≡ 0 → all_digits t ≡ true → is_frame (t ++ (10 ∷ [])) ≡ true
-framed_text t h e d =
-    let l = t ++ (10 ∷ []) in
-    let n = length_push t 10 in
-    let long : 3 ≤ length l = omega arith in
-    let odd : length l % 2 ≡ 1 = omega arith in
-    let m : length t ≡ length l - 1 = omega arith in
-    and_from _ _ (le-leb 3 (length l) long)
-    (and_from _ _ (eq-eqb (length l % 2) 1 odd) (and_from _ _ (ap all_digits (take_at t (10 ∷ []) (length l - 1) m) ∙ d) (eq-eqb _ 10 (get_or_push t 10 0 (length l - 1) m))))
+framed_text t h e d = grind (arith, common_steps, nat_tests)
 
 module _ (l : List ℕ) (framed : is_frame l ≡ true) where
   pub frame_length : 3 ≤ length l
-  frame_length = leb-true 3 (length l) (and_parts (leb 3 (length l)) _ framed).0
+  frame_length = grind (arith, nat_tests)
 
   frame_digits : all_digits (take (length l - 1) l) ≡ true
-  frame_digits = (and_parts (all_digits (take (length l - 1) l)) _ (and_parts (eqb (length l % 2) 1) _ (and_parts (leb 3 (length l)) _ framed).1).1).0
+  frame_digits = grind (arith, nat_tests)
 
   frame_feed : get_or l (length l - 1) 0 ≡ 10
-  frame_feed = eqb-true _ 10 (and_parts (all_digits (take (length l - 1) l)) _ (and_parts (eqb (length l % 2) 1) _ (and_parts (leb 3 (length l)) _ framed).1).1).1
+  frame_feed = grind (arith, nat_tests)
 
   -- a frame: its first byte, its body, its line feed
   frame_parts : l ≡ take 2 l ++ (body_of l ++ (10 ∷ []))
