@@ -1,6 +1,6 @@
 -- A line that was written reads back, and a line that was read is written again.
 use Rattle.std.proofs.Common.{◌≡◌, ℕ, ◌+◌, ◌-◌, ◌%◌, ◌^◌, ◌<◌, ◌≤◌, Bool, true, false, cond, List, [], ◌∷◌, ◌++◌, length, get_or, take, drop, Some, None, Ok, Err, Option, sym, refl, ap, ◌∙◌, arith}
-use Rattle.std.proofs.lemmas.List.{append_assoc, length-append, length-take-le, length-drop, take_at, drop_at, drop-drop, take-append-drop, take_all, drop_more, drop_all, take-take, nil_from_length}
+use Rattle.std.proofs.lemmas.List.{append_assoc, length-take-le, length-drop, take_at, drop-drop, take-append-drop, take_all, drop_more, take-take, nil_from_length}
 use Rattle.std.proofs.lemmas.Bool.{cond-true}
 use Rattle.std.proofs.lemmas.Bool.Decides.{nat_tests}
 use Rattle.std.proofs.lemmas.Grind.{common_steps}
@@ -24,15 +24,14 @@ use Rattle.frames.proofs.Writing.{length_digits, length-cost_digits, length_body
 
 -- three texts, taken apart again
 parts_back : (m n r : ℕ) (u v w : List ℕ) → length u ≡ m → length v ≡ n → length w ≡ r
-  → (part 0 m (u ++ (v ++ w)) ≡ u) × (part m n (u ++ (v ++ w)) ≡ v) × (part (m + n) r (u ++ (v ++ w)) ≡ w)
+    → (part 0 m (u ++ (v ++ w)) ≡ u) × (part m n (u ++ (v ++ w)) ≡ v) × (part (m + n) r (u ++ (v ++ w)) ≡ w)
 parts_back m n r u v w lu lv lw = (grind (arith, common_steps), grind (arith, common_steps), grind (arith, common_steps, drop-drop n m (u ++ (v ++ w))))
 
 -- a text in three parts
 three_parts : (b : List ℕ) (m n r : ℕ) → length b ≡ m + n + r → part 0 m b ++ (part m n b ++ part (m + n) r b) ≡ b
 three_parts b m n r e =
-    let last : part (m + n) r b ≡ drop (m + n) b = take_all r (drop (m + n) b) (omega (arith, length-drop (m + n) b)) in
-    let rest : part m n b ++ part (m + n) r b ≡ drop m b = ap (λ x. part m n b ++ x) (last ∙ sym (drop-drop n m b)) ∙ take-append-drop n (drop m b) in
-    ap (λ x. part 0 m b ++ x) rest ∙ take-append-drop m b
+    let last : part (m + n) r b ≡ drop n (drop m b) = take_all r (drop (m + n) b) (omega (arith, length-drop (m + n) b)) ∙ sym (drop-drop n m b) in
+    rw (last, take-append-drop n (drop m b), take-append-drop m b)
 
 part_digits : (i n : ℕ) (b : List ℕ) → i + n ≤ length b → all_digits b ≡ true → digits n (value (part i n b)) ≡ part i n b
 part_digits i n b h d = digits_value n (part i n b) (length_part i n b h) (all_digits-take n (drop i b) (all_digits-drop i b d))
@@ -40,14 +39,14 @@ part_digits i n b h d = digits_value n (part i n b) (length_part i n b h) (all_d
 -- ---- three numbers
 
 numbers_back : (a b c x y z : ℕ) → x < 16 ^ a → y < 16 ^ b → z < 16 ^ c
-  → (value (part 0 a (digits a x ++ (digits b y ++ digits c z))) ≡ x) × (value (part a b (digits a x ++ (digits b y ++ digits c z))) ≡ y)
+    → (value (part 0 a (digits a x ++ (digits b y ++ digits c z))) ≡ x) × (value (part a b (digits a x ++ (digits b y ++ digits c z))) ≡ y)
     × (value (part (a + b) c (digits a x ++ (digits b y ++ digits c z))) ≡ z)
 numbers_back a b c x y z h k l =
     let p = parts_back a b c (digits a x) (digits b y) (digits c z) (length_digits a x) (length_digits b y) (length_digits c z) in
     (ap value p.0 ∙ value-digits a x h, ap value p.1 ∙ value-digits b y k, ap value p.2 ∙ value-digits c z l)
 
 numbers_again : (a b c : ℕ) (t : List ℕ) → length t ≡ a + b + c → all_digits t ≡ true
-  → digits a (value (part 0 a t)) ++ (digits b (value (part a b t)) ++ digits c (value (part (a + b) c t))) ≡ t
+    → digits a (value (part 0 a t)) ++ (digits b (value (part a b t)) ++ digits c (value (part (a + b) c t))) ≡ t
 numbers_again a b c t e d =
     let x = part_digits 0 a t (omega arith) d in
     let y = part_digits a b t (omega arith) d in
@@ -138,10 +137,8 @@ module _ (l : List ℕ) (framed : is_frame l ≡ true) where
   frame_parts : l ≡ take 2 l ++ (body_of l ++ (10 ∷ []))
   frame_parts =
       let long = frame_length in
-      let last : drop (length l - 3) (drop 2 l) ≡ 10 ∷ [] =
-      drop-drop (length l - 3) 2 l ∙ ap (λ k. drop k l) {x = 2 + (length l - 3)} {y = length l - 1} (omega arith) ∙ drop_more l (length l - 1) 0 (omega arith)
-      ∙ ap (λ x. x ∷ drop (length l - 1 + 1) l) frame_feed ∙ ap (λ x. 10 ∷ x) (drop_all (length l - 1 + 1) l (omega arith)) in
-      sym (take-append-drop 2 l) ∙ ap (λ x. take 2 l ++ x) (sym (take-append-drop (length l - 3) (drop 2 l)) ∙ ap (λ x. body_of l ++ x) last)
+      let last : part (2 + (length l - 3)) 1 l ≡ 10 ∷ [] = grind (arith, common_steps, frame_feed, drop_more l (length l - 1) 0 (omega arith)) in
+      sym (three_parts l 2 (length l - 3) 1 (omega arith)) ∙ ap (λ x. take 2 l ++ (body_of l ++ x)) last
 
   -- what was read is written again
   pub line_again : (k : Kind) → kind_of l ≡ Some k → line_of (entry_at k (body_of l)) ≡ l
@@ -168,13 +165,9 @@ pub line_framed : (e : Entry) → is_frame (line_of e) ≡ true
 unfolding line_of
 line_framed e =
     let u = digits 2 (code (entry_kind e)) in
-    let t = u ++ body e in
-    let n = length-append u (body e) in
-    let lu = length_digits 2 (code (entry_kind e)) in
-    let lb = length_body e in
-    let even = even_body (entry_kind e) in
     ap is_frame (sym (append_assoc u (body e) (10 ∷ [])))
-    ∙ framed_text t (omega arith) (omega arith) (all_digits-append u (body e) (all_digits-digits 2 (code (entry_kind e))) (all_digits_body e))
+    ∙ framed_text (u ++ body e) (grind (arith, common_steps, length_digits)) (grind (arith, common_steps, length_digits, length_body, even_body))
+    (all_digits-append u (body e) (all_digits-digits 2 (code (entry_kind e))) (all_digits_body e))
 
 pub line_kind : (e : Entry) → kind_of (line_of e) ≡ Some (entry_kind e)
 unfolding line_of
@@ -188,7 +181,7 @@ pub line_body : (e : Entry) → body_of (line_of e) ≡ body e
 unfolding line_of
 line_body e =
     let size : length (body e) ≡ length (line_of e) - 3 = omega (arith, length_line e, length_body e) in
-    ap (take (length (line_of e) - 3)) (drop_at (digits 2 (code (entry_kind e))) (body e ++ (10 ∷ [])) 2 (length_digits 2 (code (entry_kind e)))) ∙ take_at (body e) (10 ∷ []) (length (line_of e) - 3) size
+    (parts_back 2 (length (line_of e) - 3) 1 (digits 2 (code (entry_kind e))) (body e) (10 ∷ []) (length_digits 2 _) size refl).1
 
 -- what was written reads back
 pub read_back : (e : Entry) → EntryFits e → ReadsBack e
