@@ -6,7 +6,7 @@ use Rattle.frames.proofs.RoundTrip.{read_again}
 use Rattle.frames.proofs.parsing.read.Goals as goal
 
 pub entry-requires : goal.entry-requires
-entry-requires c = let p = c.in_ok-frame.ensures in whole _ _ _ p.2 (length_known_body _ _ p.1)
+entry-requires c = let p = c.in_ok-frame.ensures in whole c.in_ok-frame.frame _ _ p.2 (length_known_body c.args.text.now _ p.1)
 
 pub returns-clause-again : goal.returns-clause-again
 returns-clause-again c =
