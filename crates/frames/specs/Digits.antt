@@ -14,6 +14,7 @@ digit_value b = cond (nat_le 48 b && nat_le b 57) (b - 48) (cond (nat_le 97 b &&
 abbrev pub digit_of : ℕ → ℕ
 digit_of n = cond (nat_lt n 10) (48 + n) (87 + n)
 
+-- whether there are only digits
 abbrev pub all_digits : List ℕ → Bool
 all_digits bs = list_all is_digit bs
 
