@@ -1,31 +1,32 @@
 -- A sheet and its first line.
-use Rattle.std.proofs.Common.{◌≡◌, ℕ, suc, ◌<◌, Bool, true, false, cond, eqb, List, [], ◌∷◌, ◌++◌, length, take, drop, refl, ap, ◌∙◌, arith}
-use Rattle.std.specs.List.{flat_map}
+use Rattle.std.proofs.Common.{◌≡◌, ℕ, ◌<◌, ◌+◌, ◌==◌, Option, min, true, false, eqb, List, [], ◌∷◌, ◌++◌, length, take, drop, refl, ap, ◌∙◌, arith}
+use Rattle.std.specs.List.{flat_map, position, position_or_len}
+use Rattle.std.specs.Option.{MatchOption}
 use Rattle.std.proofs.lemmas.Bool.{and_parts, cond-false}
 use Rattle.std.proofs.lemmas.Bool.Decides.{nat_tests}
+use Rattle.std.proofs.lemmas.Grind.{common_steps}
 use Rattle.frames.specs.Digits.{is_digit, all_digits}
 use Rattle.frames.specs.Lines.{begun, lines, line_end}
 
 -- the first line ends behind its first byte at the earliest
 pub end_after : (s : List ℕ) → 0 < length s → 0 < line_end s
 end_after [] h = absurd (omega arith)
-end_after (b ∷ s) h = go (eqb b 10) where
-  go : (x : Bool) → 0 < cond x 1 (suc (line_end s))
-  go true = omega arith
-  go false = omega arith
+end_after (b ∷ s) h = grind (arith, nat_tests)
+
+-- it ends behind the first line feed, or where the sheet ends
+line_end_place : (s : List ℕ) → line_end s ≡ min (position_or_len (λ b. b == 10) s + 1) (length s)
+line_end_place [] = refl
+line_end_place (b ∷ s) = grind (arith, nat_tests, line_end_place s)
+
+pub line_end_found : (s : List ℕ) (r : Option ℕ) (e : ℕ) → r ≡ position (λ b. b == 10) s → MatchOption r (e ≡ length s) (λ i. e ≡ i + 1) → e ≡ line_end s
+line_end_found s r e found h = grind (arith, common_steps, nat_tests, line_end_place s, found, h)
 
 -- the lines of a sheet are its first and those of the rest
 pub first_cut : (s : List ℕ) → 0 < length s → lines s ≡ take (line_end s) s ∷ lines (drop (line_end s) s)
 unfolding lines
 first_cut [] h = absurd (omega arith)
-first_cut (b ∷ []) h = go (eqb b 10) where
-  go : (x : Bool) → cond x ((b ∷ []) ∷ []) ((b ∷ []) ∷ []) ≡ take (cond x 1 1) (b ∷ []) ∷ lines (drop (cond x 1 1) (b ∷ []))
-  go true = refl
-  go false = refl
-first_cut (b ∷ (c ∷ s)) h = go (first_cut (c ∷ s) (omega arith)) (eqb b 10) where
-  go : lines (c ∷ s) ≡ take (line_end (c ∷ s)) (c ∷ s) ∷ lines (drop (line_end (c ∷ s)) (c ∷ s)) → (x : Bool) → cond x ((b ∷ []) ∷ lines (c ∷ s)) (begun b (lines (c ∷ s))) ≡ take (cond x 1 (suc (line_end (c ∷ s)))) (b ∷ (c ∷ s)) ∷ lines (drop (cond x 1 (suc (line_end (c ∷ s)))) (b ∷ (c ∷ s)))
-  go e true = refl
-  go e false = ap (begun b) e
+first_cut (b ∷ []) h = grind (arith, nat_tests)
+first_cut (b ∷ (c ∷ s)) h = grind (arith, nat_tests, first_cut (c ∷ s) (omega arith))
 
 -- ---- the lines together are the sheet
 
@@ -36,10 +37,7 @@ joined_begun b (l ∷ ls) = refl
 pub lines_joined : (s : List ℕ) → flat_map (λ l. l) (lines s) ≡ s
 unfolding lines
 lines_joined [] = refl
-lines_joined (b ∷ s) = go (lines_joined s) (eqb b 10) where
-  go : flat_map (λ l. l) (lines s) ≡ s → (x : Bool) → flat_map (λ l. l) (cond x ((b ∷ []) ∷ lines s) (begun b (lines s))) ≡ b ∷ s
-  go e true = ap (λ r. b ∷ r) e
-  go e false = joined_begun b (lines s) ∙ ap (λ r. b ∷ r) e
+lines_joined (b ∷ s) = grind (arith, joined_begun b (lines s), lines_joined s)
 
 -- ---- a line that was written is the first line
 

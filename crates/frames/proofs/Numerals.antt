@@ -1,6 +1,7 @@
 -- Numbers and their digits: what is written reads back, and what was read is written again.
 use Rattle.std.proofs.Common.{◌≡◌, ℕ, zero, suc, ◌+◌, ◌*◌, ◌/◌, ◌%◌, ◌^◌, ◌<◌, true, List, [], ◌∷◌, ◌++◌, length, take, drop, sym, refl, ap, ◌∙◌, subst, add-zero, pow-suc, arith}
-use Rattle.std.proofs.lemmas.List.{append_assoc, append-nil}
+use Rattle.std.proofs.lemmas.List.{append_assoc, append-nil, take-append-drop}
+use Rattle.std.proofs.lemmas.List.Folds.{list_all-append}
 use Rattle.std.proofs.lemmas.Bool.{and_parts, and_from}
 use Rattle.std.proofs.lemmas.Bool.Decides.{nat_tests}
 use Rattle.frames.specs.Digits.{is_digit, digit_value, digit_of, all_digits, value, value_from, digits}
@@ -22,18 +23,16 @@ digit_of_is_digit r h = grind (arith, nat_tests)
 -- ---- all digits
 
 pub all_digits-append : (xs ys : List ℕ) → all_digits xs ≡ true → all_digits ys ≡ true → all_digits (xs ++ ys) ≡ true
-all_digits-append [] ys h k = k
-all_digits-append (x ∷ xs) ys h k = let p = and_parts (is_digit x) (all_digits xs) h in and_from _ _ p.0 (all_digits-append xs ys p.1 k)
+all_digits-append xs ys h k = list_all-append is_digit xs ys ∙ and_from _ _ h k
+
+all_digits_parts : (n : ℕ) (xs : List ℕ) → all_digits xs ≡ true → (all_digits (take n xs) ≡ true) × (all_digits (drop n xs) ≡ true)
+all_digits_parts n xs h = and_parts _ _ (sym (list_all-append is_digit (take n xs) (drop n xs)) ∙ ap all_digits (take-append-drop n xs) ∙ h)
 
 pub all_digits-take : (n : ℕ) (xs : List ℕ) → all_digits xs ≡ true → all_digits (take n xs) ≡ true
-all_digits-take zero xs h = refl
-all_digits-take (suc n) [] h = refl
-all_digits-take (suc n) (x ∷ xs) h = let p = and_parts (is_digit x) (all_digits xs) h in and_from _ _ p.0 (all_digits-take n xs p.1)
+all_digits-take n xs h = (all_digits_parts n xs h).0
 
 pub all_digits-drop : (n : ℕ) (xs : List ℕ) → all_digits xs ≡ true → all_digits (drop n xs) ≡ true
-all_digits-drop zero xs h = h
-all_digits-drop (suc n) [] h = refl
-all_digits-drop (suc n) (x ∷ xs) h = all_digits-drop n xs (and_parts (is_digit x) (all_digits xs) h).1
+all_digits-drop n xs h = (all_digits_parts n xs h).1
 
 pub all_digits-digits : (w n : ℕ) → all_digits (digits w n) ≡ true
 unfolding digits

@@ -1,5 +1,6 @@
 -- Numbers in base sixteen, the high digit first.
-use Rattle.std.specs.Prelude.{ℕ, zero, suc, ◌+◌, ◌-◌, ◌*◌, ◌/◌, ◌%◌, Bool, true, cond, ◌&&◌, ◌||◌, List, [], ◌∷◌, ◌++◌, nat_le, nat_lt}
+use Rattle.std.specs.List.{list_all}
+use Rattle.std.specs.Prelude.{ℕ, zero, suc, ◌+◌, ◌-◌, ◌*◌, ◌/◌, ◌%◌, Bool, cond, ◌&&◌, ◌||◌, List, [], ◌∷◌, ◌++◌, nat_le, nat_lt}
 
 -- the bytes 0-9 and a-f
 abbrev pub is_digit : ℕ → Bool
@@ -13,9 +14,9 @@ digit_value b = cond (nat_le 48 b && nat_le b 57) (b - 48) (cond (nat_le 97 b &&
 abbrev pub digit_of : ℕ → ℕ
 digit_of n = cond (nat_lt n 10) (48 + n) (87 + n)
 
+-- whether there are only digits
 abbrev pub all_digits : List ℕ → Bool
-all_digits [] = true
-all_digits (b ∷ bs) = is_digit b && all_digits bs
+all_digits bs = list_all is_digit bs
 
 -- the number that digits write, behind those that wrote n
 abbrev pub value_from : ℕ → List ℕ → ℕ

@@ -4,7 +4,6 @@
 
 ghost use Rattle.std.specs.Prelude.{◌≡◌, ◌+◌, ◌^◌, ◌<◌, ◌≤◌, length};
 ghost use Rattle.frames.specs.Digits.{is_digit, digit_value, digit_of, value, digits};
-ghost use Rattle.frames.specs.Frames.{code, coded, body_length, over};
 
 mod entries;
 mod kinds;
@@ -19,42 +18,6 @@ pub use lines::first_line;
 pub use parsing::{parse, read};
 pub use printing::write;
 pub use shapes::Frame;
-
-impl Kind {
-    // The first byte of a frame of this kind.
-    fn code(self) -> u8
-        ensures { result ≡ code self }
-    {
-        self as u8
-    }
-
-    // The kind of which this is the first byte.
-    fn coded(byte: u8) -> Option<Kind>
-        ensures { result ≡ coded byte }
-    {
-        match byte {
-            1 => Some(Kind::Header),
-            2 => Some(Kind::Link),
-            3 => Some(Kind::Guide),
-            4 => Some(Kind::Limits),
-            5 => Some(Kind::End),
-            _ => None,
-        }
-    }
-
-    // How many digits stand between the first byte and the line feed.
-    fn body_length(self) -> usize
-        ensures { result ≡ body_length self }
-    {
-        match self {
-            Kind::Header => 12,
-            Kind::Link => 28,
-            Kind::Guide => 20,
-            Kind::Limits => 20,
-            Kind::End => 0,
-        }
-    }
-}
 
 // Whether a byte is a digit, 0-9 or a-f.
 fn is_digit(byte: u8) -> bool
@@ -76,6 +39,7 @@ fn digit_value(byte: u8) -> u8
 }
 
 // The number that at most eight digits write.
+#[tactic(auto, using(crate::proofs::Powers::power_room))]
 fn number(digits: &[u8]) -> u32
     requires { length digits.now ≤ 8 }
     ensures value { result ≡ value digits.now }
@@ -108,16 +72,13 @@ fn digit_of(number: u8) -> u8
     }
 }
 
-// Writes the last `width` digits of a number at a place, and says where they end.
-fn put_number(buffer: &mut [u8], at: usize, width: usize, number: u32) -> usize
-    requires { at + width ≤ length buffer.old }
-    ensures value { result ≡ at + width }
-    ensures after { buffer.new ≡ over buffer.old at (digits width number) }
+// Writes the last digits of a number, as many as there is room for.
+#[tactic(auto, unfolding(crate::specs::Digits::digits))]
+fn put_number(slot: &mut [u8], number: u32)
+    ensures { slot.new ≡ digits (length slot.old) number }
 {
-    let mut rest = number;
-    for i in (0..width).rev() {
-        buffer[at + i] = digit_of((rest % 16) as u8);
-        rest /= 16;
+    if let Some((digit, front)) = slot.split_last_mut() {
+        *digit = digit_of((number % 16) as u8);
+        put_number(front, number / 16);
     }
-    at + width
 }

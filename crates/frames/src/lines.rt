@@ -7,15 +7,14 @@ fn line_end(sheet: &[u8]) -> usize
     ensures value { result ≡ line_end sheet.now }
     ensures within { result ≤ length sheet.now }
 {
-    for (i, byte) in sheet.iter().enumerate() {
-        if *byte == b'\n' {
-            return i + 1;
-        }
-    }
-    sheet.len()
+    sheet
+        .iter()
+        .position(|byte| *byte == b'\n')
+        .map_or(sheet.len(), |place| place + 1)
 }
 
 // The first line of a sheet, its line feed included, and what follows it; none where the sheet is empty.
+#[tactic(auto, using(crate::proofs::Cuts::first_cut, crate::proofs::Cuts::end_after))]
 pub fn first_line(sheet: &[u8]) -> Option<(&[u8], &[u8])>
     ensures { elim result [ None ↦ sheet.now ≡ [] | Some v ↦ (lines sheet.now ≡ v.0.now ∷ lines v.1.now) × (length v.1.now < length sheet.now) ] }
 {

@@ -11,15 +11,7 @@ use scale::{WeaveCost, weave_cost};
 fn are_paired_digits(bytes: &[u8]) -> bool
     ensures { result ≡ (length bytes.now % 2 == 0 && all_digits bytes.now) }
 {
-    if bytes.len() % 2 != 0 {
-        return false;
-    }
-    for byte in bytes {
-        if !is_digit(*byte) {
-            return false;
-        }
-    }
-    true
+    bytes.len() % 2 == 0 && bytes.iter().all(|byte| is_digit(*byte))
 }
 
 // A frame of the kind, its parts taken from the digits behind the first byte.
@@ -60,9 +52,7 @@ pub fn parse(text: &[u8], line: usize) -> Result<Frame<'_>, Refusal>
     if !are_paired_digits(digits) {
         return Err(Refusal::NotAFrame);
     }
-    let Some(kind) = Kind::coded(digit_value(*high) * 16 + digit_value(*low)) else {
-        return Err(Refusal::UnknownFrame);
-    };
+    let kind = Kind::try_from(digit_value(*high) * 16 + digit_value(*low))?;
     if body.len() != kind.body_length() {
         return Err(Refusal::UnknownFrame);
     }
@@ -87,11 +77,11 @@ impl Frame<'_> {
         ensures { result ≡ frame_line self.now }
     {
         match self {
-            Frame::Header { line, .. } => *line,
-            Frame::Link { line, .. } => *line,
-            Frame::Guide { line, .. } => *line,
-            Frame::Limits { line, .. } => *line,
-            Frame::End { line } => *line,
+            Frame::Header { line, .. }
+            | Frame::Link { line, .. }
+            | Frame::Guide { line, .. }
+            | Frame::Limits { line, .. }
+            | Frame::End { line } => *line,
         }
     }
 
@@ -136,6 +126,7 @@ fn cost_of(digits: &[u8]) -> WeaveCost
 }
 
 // What a line of a sheet says, its line feed included.
+#[tactic(auto, using(crate::proofs::Reading::said_is))]
 pub fn read(text: &[u8]) -> Result<Entry, Refusal>
     ensures value { result ≡ read_line text.now }
     ensures again { IfOk result (λ e. line_of e ≡ text.now) }

@@ -7,39 +7,42 @@ use super::{Entry, Kind, put_number};
 use repertoire::Refusal;
 use scale::WeaveCost;
 
-// Writes a cost at a place, and says where it ends.
-fn put_cost(buffer: &mut [u8], at: usize, cost: WeaveCost) -> usize
-    requires { at + 20 ≤ length buffer.old }
-    ensures value { result ≡ at + 20 }
-    ensures after { buffer.new ≡ over buffer.old at (cost_digits cost) }
+// Writes a cost into its twenty digits.
+fn put_cost(slot: &mut [u8], cost: WeaveCost)
+    requires { length slot.old ≡ 20 }
+    ensures digits { slot.new ≡ cost_digits cost }
     ensures fits { CostFits cost }
 {
-    let yarns = put_number(buffer, at, 4, u32::from(cost.first.value));
-    let picks = put_number(buffer, yarns, 8, cost.second.first.bits);
-    put_number(buffer, picks, 8, cost.second.second.value)
+    let (float, rest) = slot.split_at_mut(4);
+    let (yarns, picks) = rest.split_at_mut(8);
+    put_number(float, u32::from(cost.first.value));
+    put_number(yarns, cost.second.first.bits);
+    put_number(picks, cost.second.second.value);
 }
 
-// Writes what stands behind the first byte of an entry, up to its line feed, and says where it ends.
-fn put_body(buffer: &mut [u8], at: usize, entry: Entry) -> usize
-    requires { at + body_length (entry_kind entry) ≤ length buffer.old }
-    ensures value { result ≡ at + body_length (entry_kind entry) }
-    ensures after { buffer.new ≡ over buffer.old at (body_digits entry) }
+// Writes what stands behind the first byte of an entry, up to its line feed.
+fn put_body(slot: &mut [u8], entry: Entry)
+    requires { length slot.old ≡ body_length (entry_kind entry) }
+    ensures digits { slot.new ≡ body_digits entry }
     ensures fits { EntryFits entry }
 {
     match entry {
         Entry::Header(header) => {
-            let start = put_number(buffer, at, 4, u32::from(header.motifs));
-            let goal = put_number(buffer, start, 4, u32::from(header.start));
-            put_number(buffer, goal, 4, u32::from(header.goal))
+            let (motifs, ends) = slot.split_at_mut(4);
+            let (start, goal) = ends.split_at_mut(4);
+            put_number(motifs, u32::from(header.motifs));
+            put_number(start, u32::from(header.start));
+            put_number(goal, u32::from(header.goal));
         }
         Entry::Link(link) => {
-            let to = put_number(buffer, at, 4, u32::from(link.from));
-            let cost = put_number(buffer, to, 4, u32::from(link.to));
-            put_cost(buffer, cost, link.cost)
+            let (from, rest) = slot.split_at_mut(4);
+            let (to, cost) = rest.split_at_mut(4);
+            put_number(from, u32::from(link.from));
+            put_number(to, u32::from(link.to));
+            put_cost(cost, link.cost);
         }
-        Entry::Guide(cost) => put_cost(buffer, at, cost),
-        Entry::Limits(cost) => put_cost(buffer, at, cost),
-        Entry::End => at,
+        Entry::Guide(cost) | Entry::Limits(cost) => put_cost(slot, cost),
+        Entry::End => {}
     }
 }
 
@@ -57,19 +60,32 @@ impl Entry {
     }
 }
 
+// Writes the line of an entry, its line feed included.
+#[tactic(auto, using(crate::proofs::Writing::length_line), unfolding(crate::specs::Frames::line_of))]
+fn put_line(slot: &mut [u8], entry: Entry)
+    requires { length slot.old ≡ length (line_of entry) }
+    ensures digits { slot.new ≡ line_of entry }
+    ensures fits { EntryFits entry }
+{
+    let kind = entry.kind();
+    let (first, rest) = slot.split_at_mut(2);
+    let (body, feed) = rest.split_at_mut(kind.body_length());
+    put_number(first, u32::from(u8::from(kind)));
+    put_body(body, entry);
+    feed.copy_from_slice(b"\n");
+}
+
 // Writes the line of an entry at a place, and says where it ends; where the buffer is too short, it stays as it was.
+#[tactic(auto, using(crate::proofs::Writing::length_line, crate::proofs::RoundTrip::read_back))]
 pub fn write(buffer: &mut [u8], at: usize, entry: Entry) -> Result<usize, Refusal>
     ensures value { result ≡ (if nat_le (at + length (line_of entry)) (length buffer.old) then Ok (at + length (line_of entry)) else Err BufferTooShort) }
     ensures after { buffer.new ≡ (if nat_le (at + length (line_of entry)) (length buffer.old) then over buffer.old at (line_of entry) else buffer.old) }
     ensures back { OnOk result (ReadsBack entry) }
 {
-    let kind = entry.kind();
-    let length = kind.body_length() + 3;
+    let length = entry.kind().body_length() + 3;
     if buffer.len().saturating_sub(at) < length {
         return Err(Refusal::BufferTooShort);
     }
-    let body = put_number(buffer, at, 2, u32::from(kind.code()));
-    let feed = put_body(buffer, body, entry);
-    buffer[feed] = b'\n';
-    Ok(feed + 1)
+    put_line(&mut buffer[at..at + length], entry);
+    Ok(at + length)
 }
