@@ -2,7 +2,7 @@
 // too few, and prints what came of each.
 #![tactic(auto)]
 
-ghost use Rattle.std.specs.Prelude.{◌≡◌, true, length, take, Some, None, Ok, Err};
+ghost use Rattle.std.specs.Prelude.{◌≡◌, true, length, take, Some, None, Ok, Err, IfOk, vec_len};
 ghost use Rattle.repertoire.specs.Numbers.{refusal_number};
 
 use account::{Account, GUIDE_ROWS, LINK_ROWS, report};
@@ -10,11 +10,10 @@ use repertoire::{Header, Link, Refusal};
 use rule::{Count, Ladder};
 use scale::{Grade, Scale, WeaveCost, harness_cost, held_set, weave_cost};
 use sheet::encode;
-use std::alloc::Alloc;
-use std::fs::Files;
-use std::io::Print;
+use std::alloc::{Alloc, AllocError};
+use std::fs::{self, Files};
+use std::io::{self, Print};
 use std::str::from_utf8;
-use std::{fs, io};
 
 mod comparing;
 
@@ -102,6 +101,25 @@ fn refusal_number(answer: Result<usize, Refusal>) -> Option<u8>
     answer.err().map(Refusal::number)
 }
 
+// So many links and guides, all alike.
+fn rows<R: Alloc>(
+    rt: &R,
+    links: usize,
+    guides: usize,
+) -> Result<(Vec<Link<WeaveCost>, R::A>, Vec<WeaveCost, R::A>), AllocError>
+    ensures { IfOk result (λ made. (vec_len made.0 ≡ links) × (vec_len made.1 ≡ guides)) }
+{
+    let none = weave_cost(0, 0, 0);
+    let link = Link {
+        from: 0,
+        to: 0,
+        cost: none,
+    };
+    let links = vec![in rt.alloc(); link; links]?;
+    let guides = vec![in rt.alloc(); none; guides]?;
+    Ok((links, guides))
+}
+
 // Reads a sheet of the folder into so many rows, and writes what was read over the front of a buffer.
 fn try_sheet<R: Files + Alloc + Print>(
     rt: &R,
@@ -110,14 +128,8 @@ fn try_sheet<R: Files + Alloc + Print>(
     guide_rows: usize,
     buffer: &mut [u8],
 ) -> io::Result<()> {
-    let none = weave_cost(0, 0, 0);
     let sheet = fs::read(rt, name)?;
-    let mut links = vec![in rt.alloc(); Link {
-        from: 0,
-        to: 0,
-        cost: none
-    }; link_rows]?;
-    let mut guides = vec![in rt.alloc(); none; guide_rows]?;
+    let (mut links, mut guides) = rows(rt, link_rows, guide_rows)?;
     println!(rt; "{name}, {link_rows} and {guide_rows} rows")?;
     match report(
         sheet.as_slice(),
@@ -147,19 +159,17 @@ fn try_edge<R: Alloc + Print>(
     more: usize,
     buffer: &mut [u8],
 ) -> io::Result<()> {
-    let none = weave_cost(0, 0, 0);
-    let link = Link {
-        from: 0,
-        to: 0,
-        cost: none,
-    };
-    let links = vec![in rt.alloc(); link; link_count]?;
-    let guides = vec![in rt.alloc(); none; guide_count]?;
-    let answer = encode(HEADER, links.as_slice(), guides.as_slice(), none, buffer);
+    let (links, guides) = rows(rt, link_count, guide_count)?;
+    let answer = encode(
+        HEADER,
+        links.as_slice(),
+        guides.as_slice(),
+        weave_cost(0, 0, 0),
+        buffer,
+    );
     let length = answer.unwrap_or(0).saturating_add(more).min(buffer.len());
     println!(rt; "{link_count} links, {guide_count} guides, {length} bytes")?;
-    let mut links = vec![in rt.alloc(); link; LINK_ROWS]?;
-    let mut guides = vec![in rt.alloc(); none; GUIDE_ROWS]?;
+    let (mut links, mut guides) = rows(rt, LINK_ROWS, GUIDE_ROWS)?;
     match report(
         &buffer[0..length],
         links.as_mut_slice(),
@@ -192,10 +202,8 @@ fn try_buffer<R: Alloc + Print>(rt: &R, length: usize) -> io::Result<()> {
     let answer = encode(HEADER, &[], &[], weave_cost(0, 0, 0), buffer.as_mut_slice());
     let refused = refusal_number(answer);
     println!(rt; "The shortest sheet in {length} bytes, refused {refused:?}")?;
-    match from_utf8(buffer.as_slice()) {
-        Ok(text) => println!(rt; "{text}"),
-        Err(_) => println!(rt; "no text"),
-    }
+    let text = from_utf8(buffer.as_slice()).unwrap_or("no text");
+    println!(rt; "{text}")
 }
 
 fn main(rt: HostRuntime) -> io::Result<()> {

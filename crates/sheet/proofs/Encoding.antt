@@ -1,18 +1,13 @@
 -- Lines written one behind another.
-use Rattle.std.proofs.Common.{◌≡◌, ℕ, ◌+◌, ◌*◌, ◌<◌, ◌≤◌, cond, leb, List, [], ◌∷◌, ◌++◌, map, length, get_or, drop, IfOk, Ok, Err, Result, sym, refl, ap, ◌∙◌, subst, arith}
+use Rattle.std.proofs.Common.{◌≡◌, ℕ, ◌+◌, ◌*◌, ◌<◌, ◌≤◌, List, [], ◌∷◌, ◌++◌, map, length, get_or, drop, Ok, Result, sym, refl, ap, ◌∙◌, subst, arith}
 use Rattle.std.proofs.lemmas.Grind.{flat_map-append}
-use Rattle.std.proofs.lemmas.List.{at_drop_more, drop_more, drop_all, append_assoc, append-nil, length-append}
+use Rattle.std.proofs.lemmas.List.{at_drop_more, drop_more, append_assoc, length-append}
 use Rattle.std.proofs.ByRecursion.{All-append}
-use Rattle.std.proofs.lemmas.Bool.{cond-true, le-leb}
 use Rattle.std.specs.List.{AllByRecursion}
 use Rattle.repertoire.specs.declared.refusals.Refusal.{Refusal}
-use Rattle.repertoire.specs.declared.refusals.Refusal.TheVariants.{BufferTooShort}
-use Rattle.scale.specs.Weave.{WeaveCost}
-use Rattle.repertoire.specs.declared.links.Link.{Link}
 use Rattle.frames.specs.declared.entries.Entry.{Entry}
 use Rattle.frames.specs.declared.entries.Entry.TheVariants as entry
 use Rattle.frames.specs.Frames.{line_of, over, ReadsBack}
-use Rattle.frames.proofs.RoundTrip.{read_back}
 use Rattle.frames.proofs.Writing.{over-over, length_line}
 use Rattle.sheet.specs.Sheets.{Sheet, entries_of, written, text_of, onto}
 

@@ -1,7 +1,7 @@
-use Rattle.std.proofs.Common.{◌≡◌, length, Ok, Err, sym, ap, ◌∙◌, arith, rules}
+use Rattle.std.proofs.Common.{◌≡◌, length, Ok, sym, ap, ◌∙◌, arith}
 use Rattle.std.proofs.lemmas.Result.{err_from_is_err_and}
 use Rattle.frames.specs.Lines.{lines}
-use Rattle.sheet.specs.Sheets.{answered, links_after, guides_after, decoded, gathered, entries_in}
+use Rattle.sheet.specs.Sheets.{decoded, gathered, entries_in}
 use Rattle.sheet.proofs.Fills.{filled_sheet}
 use Rattle.sheet.proofs.RoundTrip.{again, accepted_rows}
 use Rattle.sheet.proofs.Walks.{unframed_decides, survey_decides, faulted, faultless}

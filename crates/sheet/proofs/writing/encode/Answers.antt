@@ -1,6 +1,6 @@
-use Rattle.std.proofs.Common.{◌≡◌, ◌+◌, ◌<◌, ◌≤◌, length, Ok, sym, ap, ◌∙◌, arith}
-use Rattle.std.proofs.lemmas.Bool.{cond-true, cond-false, le-leb, lt-leb}
-use Rattle.sheet.specs.Sheets.{written, records, RoundTrips}
+use Rattle.std.proofs.Common.{◌≤◌, length, Ok, ap, ◌∙◌, arith}
+use Rattle.std.proofs.lemmas.Bool.{le-leb, lt-leb}
+use Rattle.sheet.specs.Sheets.{written, records}
 use Rattle.sheet.proofs.Encoding.{rows_end, lengths, written_front, each_back}
 use Rattle.sheet.proofs.RoundTrip.{read_back}
 use Rattle.sheet.proofs.writing.encode.Goals as goal
