@@ -30,14 +30,13 @@ pub use writing::encode;
 fn may_follow(last: Option<Kind>, next: Kind) -> bool
     ensures { result ≡ may_follow last next }
 {
-    match last {
-        None => matches!(next, Kind::Header),
-        Some(Kind::Header) => matches!(next, Kind::Link | Kind::Guide | Kind::Limits),
-        Some(Kind::Link) => matches!(next, Kind::Link | Kind::Guide | Kind::Limits),
-        Some(Kind::Guide) => matches!(next, Kind::Guide | Kind::Limits),
-        Some(Kind::Limits) => matches!(next, Kind::End),
-        Some(Kind::End) => false,
-    }
+    matches!(
+        (last, next),
+        (None, Kind::Header)
+            | (Some(Kind::Header | Kind::Link), Kind::Link | Kind::Guide | Kind::Limits)
+            | (Some(Kind::Guide), Kind::Guide | Kind::Limits)
+            | (Some(Kind::Limits), Kind::End)
+    )
 }
 
 impl Survey {
