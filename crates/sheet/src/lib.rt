@@ -46,11 +46,7 @@ impl Survey {
     {
         Survey {
             line: 1,
-            last: None,
-            unknown: None,
-            misplaced: None,
-            links: 0,
-            guides: 0,
+            ..Survey::default()
         }
     }
 
@@ -91,7 +87,7 @@ impl Survey {
     fn out_of_order(&self) -> Option<usize>
         ensures { result ≡ option_or self.now.misplaced (noted (may_end self.now.last) self.now.line) }
     {
-        let ended = matches!(self.last, Some(Kind::End));
+        let ended = self.last == Some(Kind::End);
         self.misplaced.or((!ended).then_some(self.line))
     }
 
@@ -106,7 +102,7 @@ impl Survey {
         (self.guides > guide_rows).then_some(self.links + guide_rows + 2)
     }
 
-    // Whether frames that are all surveyed are a sheet that fits so many rows.
+    // Refuses frames that are all surveyed where something is wrong with them, given so many rows.
     fn check(&self, link_rows: usize, guide_rows: usize) -> Result<(), Fault>
         requires { link_rows + guide_rows + 2 < 2 ^ 64 }
         ensures { result ≡ unfaulted (fault_of link_rows guide_rows self.now) (Ok tt) }
