@@ -21,32 +21,26 @@ fn put<T: Copy>(rows: &mut [T], at: usize, row: T)
 // Puts an entry where it belongs; one that has no row is left out.
 fn store(
     entry: Entry,
-    contents: Contents,
+    contents: &mut Contents,
     links: &mut [Link<WeaveCost>],
     guides: &mut [WeaveCost],
-) -> Contents
-    requires links { contents.links + 1 < 2 ^ 64 }
-    requires guides { contents.guides + 1 < 2 ^ 64 }
-    ensures { filling result links.new guides.new ≡ stored (filling contents links.old guides.old) entry }
+)
+    requires links { contents.old.links + 1 < 2 ^ 64 }
+    requires guides { contents.old.guides + 1 < 2 ^ 64 }
+    ensures { filling contents.new links.new guides.new ≡ stored (filling contents.old links.old guides.old) entry }
 {
     match entry {
-        Entry::Header(header) => Contents { header, ..contents },
+        Entry::Header(header) => contents.header = header,
         Entry::Link(link) => {
             put(links, contents.links, link);
-            Contents {
-                links: contents.links + 1,
-                ..contents
-            }
+            contents.links += 1;
         }
         Entry::Guide(guide) => {
             put(guides, contents.guides, guide);
-            Contents {
-                guides: contents.guides + 1,
-                ..contents
-            }
+            contents.guides += 1;
         }
-        Entry::Limits(limits) => Contents { limits, ..contents },
-        Entry::End => contents,
+        Entry::Limits(limits) => contents.limits = limits,
+        Entry::End => {}
     }
 }
 
@@ -67,7 +61,7 @@ fn fill(sheet: &[u8], links: &mut [Link<WeaveCost>], guides: &mut [WeaveCost]) -
     let mut left = sheet;
     while let Some((text, rest)) = first_line(left) {
         if let Ok(entry) = read(text) {
-            contents = store(entry, contents, links, guides);
+            store(entry, &mut contents, links, guides);
         }
         left = rest;
     }
