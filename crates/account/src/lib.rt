@@ -14,7 +14,7 @@ mod reports;
 pub use reports::{Account, Rejection};
 
 impl Account {
-    // Whether there is no such link, and one is needed, since start and goal differ.
+    // Whether so many links are too few for a chain: there is none, and one is needed, since start and goal differ.
     fn lacks(&self, count: usize) -> bool
         ensures { result ≡ lacking count self.now.contents.header }
     {
@@ -26,10 +26,11 @@ impl Account {
 // The longest sheet that is looked at, in bytes.
 pub const MOST_BYTES: usize = 65536;
 
-// As many rows as the programs lend: no sheet of at most so many bytes has more links, since the line of a link has 31
-// bytes, and no repertoire that the planner takes has more guides.
+// The rows of links that the programs lend. No sheet that is looked at has more links, since the line of a link has 31
+// bytes.
 pub const LINK_ROWS: usize = 2114;
 
+// The rows of guides that the programs lend, as many as a repertoire has motifs at most.
 pub const GUIDE_ROWS: usize = 1024;
 
 // The account of a sheet, whose links and guides are put into the rows.

@@ -85,7 +85,7 @@ unfaulted_found (Some n) why other r = refl
 -- a check alone decides
 pub faulted : {A B : Type 0} (o : Option Fault) (b : B) (r : Result A Fault) {f : Fault} → unfaulted o (Ok b) ≡ Err f → unfaulted o r ≡ Err f
 faulted None b r e = cc
-faulted (Some x) b r e = let same : x ≡ _ = cc in ap Err same
+faulted (Some x) b r e = cc
 
 pub faultless : {A B : Type 0} (o : Option Fault) (b : B) (r : Result A Fault) {x : B} → unfaulted o (Ok b) ≡ Ok x → unfaulted o r ≡ r
 faultless None b r e = refl

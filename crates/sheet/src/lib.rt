@@ -30,13 +30,13 @@ pub use writing::encode;
 fn may_follow(last: Option<Kind>, next: Kind) -> bool
     ensures { result ≡ may_follow last next }
 {
-    matches!(
-        (last, next),
-        (None, Kind::Header)
-            | (Some(Kind::Header | Kind::Link), Kind::Link | Kind::Guide | Kind::Limits)
-            | (Some(Kind::Guide), Kind::Guide | Kind::Limits)
-            | (Some(Kind::Limits), Kind::End)
-    )
+    match last {
+        None => next == Kind::Header,
+        Some(Kind::Header | Kind::Link) => matches!(next, Kind::Link | Kind::Guide | Kind::Limits),
+        Some(Kind::Guide) => matches!(next, Kind::Guide | Kind::Limits),
+        Some(Kind::Limits) => next == Kind::End,
+        Some(Kind::End) => false,
+    }
 }
 
 impl Survey {
@@ -72,7 +72,7 @@ impl Survey {
         ensures { result ≡ with self (Some (frame_kind frame.now)) }
     {
         let kind = frame.kind();
-        let misplaced = (!may_follow(self.last, kind)).then_some(self.line);
+        let misplaced = (!may_follow(self.last, kind)).then_some(frame.line());
         Survey {
             line: self.line + 1,
             last: Some(kind),
