@@ -7,8 +7,8 @@ use Rattle.repertoire.specs.Links.{leaves, reaches}
 use Rattle.sheet.specs.declared.faults.Fault.{Fault}
 use Rattle.sheet.specs.Sheets.{Sheet, contents_of, decoded_into, links_after, guides_after}
 use Rattle.account.specs.declared.reports.Account.{Account}
-use Rattle.account.specs.declared.reports.Report.{Report}
-use Rattle.account.specs.declared.reports.Report.TheVariants.{Accepted, Refused, TooLong}
+use Rattle.account.specs.declared.reports.Rejection.{Rejection}
+use Rattle.account.specs.declared.reports.Rejection.TheVariants.{Faulty, TooLong}
 
 -- what a sheet holds, and how many of its links leave the start and reach the goal
 abbrev pub accounted : Sheet → Account
@@ -18,17 +18,17 @@ accounted s = record { contents = contents_of s; leaving = count_by (leaves s.he
 abbrev pub lacking : ℕ → Header → Bool
 lacking count h = count == 0 && not (h.start == h.goal)
 
-abbrev pub told : Result Sheet Fault → Report
-told (Ok s) = Accepted (accounted s)
-told (Err f) = Refused f
+abbrev pub told : Result Sheet Fault → Result Account Rejection
+told (Ok s) = Ok (accounted s)
+told (Err f) = Err (Faulty f)
 
 -- a sheet of more than 65,536 bytes is not looked at
 abbrev pub unless_long : {A : Type 0} → List ℕ → A → A → A
 unless_long s a b = cond (nat_lt 65536 (length s)) a b
 
 -- the report on a sheet, and what the rows hold then
-abbrev pub reported : List (Link WeaveCost) → List WeaveCost → List ℕ → Report
-reported links guides s = unless_long s TooLong (told (decoded_into links guides s))
+abbrev pub reported : List (Link WeaveCost) → List WeaveCost → List ℕ → Result Account Rejection
+reported links guides s = unless_long s (Err TooLong) (told (decoded_into links guides s))
 
 abbrev pub links_told : List (Link WeaveCost) → List WeaveCost → List ℕ → List (Link WeaveCost)
 links_told links guides s = unless_long s links (links_after (decoded_into links guides s) links)

@@ -1,8 +1,9 @@
 // The words of the account.
 use super::MOST_BYTES;
-use super::reports::{Account, Report};
-use repertoire::Refusal;
+use super::reports::{Account, Rejection};
+use repertoire::{Header, Refusal};
 use scale::{WeaveCost, YarnSet};
+use sheet::{Contents, Fault};
 use std::fmt;
 
 // The numbers of the yarns in a set, in rising order.
@@ -12,18 +13,13 @@ struct Yarns(YarnSet);
 impl fmt::Display for Yarns {
     fn fmt<W: fmt::Write>(&self, f: &mut fmt::Formatter<W>) -> fmt::Result {
         let yarns = self.0;
-        if yarns.bits == 0 {
+        let mut numbers = (0..32u32).filter(|yarn| yarns.has(*yarn));
+        let Some(first) = numbers.next() else {
             return f.write_str("none");
-        }
-        let mut listed = false;
-        for yarn in 0..32u32 {
-            if yarns.has(yarn) {
-                if listed {
-                    f.write_str(", ")?;
-                }
-                write!(f, "{yarn}")?;
-                listed = true;
-            }
+        };
+        write!(f, "{first}")?;
+        for yarn in numbers {
+            write!(f, ", {yarn}")?;
         }
         Ok(())
     }
@@ -47,15 +43,23 @@ impl fmt::Display for Limits {
 
 impl fmt::Display for Account {
     fn fmt<W: fmt::Write>(&self, f: &mut fmt::Formatter<W>) -> fmt::Result {
-        let header = self.contents.header;
-        let motifs = header.motifs;
-        let start = header.start;
-        let goal = header.goal;
-        let links = self.contents.links;
-        let guides = self.contents.guides;
-        let leaving = self.leaving;
-        let reaching = self.reaching;
-        let limits = Limits(self.contents.limits);
+        let Account {
+            contents,
+            leaving,
+            reaching,
+        } = *self;
+        let Contents {
+            header,
+            limits,
+            links,
+            guides,
+        } = contents;
+        let Header {
+            motifs,
+            start,
+            goal,
+        } = header;
+        let limits = Limits(limits);
         writeln!(f, "The sheet is accepted.")?;
         writeln!(
             f,
@@ -66,13 +70,13 @@ impl fmt::Display for Account {
             f,
             "Links that leave motif {start}: {leaving}. Links that reach motif {goal}: {reaching}."
         )?;
-        if self.cannot_begin() {
+        if self.lacks(leaving) {
             writeln!(
                 f,
                 "No link leaves motif {start}, so no chain can begin there."
             )?;
         }
-        if self.cannot_end() {
+        if self.lacks(reaching) {
             writeln!(
                 f,
                 "No link reaches motif {goal}, so no chain can end there."
@@ -82,20 +86,17 @@ impl fmt::Display for Account {
     }
 }
 
-impl fmt::Display for Report {
+impl fmt::Display for Rejection {
     fn fmt<W: fmt::Write>(&self, f: &mut fmt::Formatter<W>) -> fmt::Result {
         match self {
-            Report::Accepted(account) => write!(f, "{account}"),
-            Report::Refused(fault) => {
-                let number = fault.refusal.number();
-                let refusal = fault.refusal;
-                let line = fault.line;
+            Rejection::Faulty(Fault { refusal, line }) => {
+                let number = refusal.number();
                 writeln!(
                     f,
                     "The sheet is refused with number {number}, at line {line}: {refusal}."
                 )
             }
-            Report::TooLong => {
+            Rejection::TooLong => {
                 let number = Refusal::NotAFrame.number();
                 writeln!(
                     f,

@@ -1,4 +1,7 @@
-// What the office is told of a sheet.
+// What the office is told of a sheet: an account of it, or why it is rejected.
+ghost use Rattle.std.specs.Prelude.{◌≡◌};
+ghost use Rattle.account.specs.declared.reports.Rejection.TheVariants.{Faulty};
+
 use sheet::{Contents, Fault};
 
 // An accepted sheet.
@@ -12,9 +15,16 @@ pub struct Account {
 }
 
 #[derive(Clone, Copy)]
-pub enum Report {
-    Accepted(Account),
-    Refused(Fault),
+pub enum Rejection {
+    Faulty(Fault),
     // Longer than a sheet may be, which is refused as a line that is not a frame.
     TooLong,
+}
+
+impl From<Fault> for Rejection {
+    ghost from_gives = { λ fault rejection. rejection ≡ Faulty fault };
+
+    fn from(fault: Fault) -> Rejection {
+        Rejection::Faulty(fault)
+    }
 }

@@ -2,25 +2,29 @@
 // too few, and prints what came of each.
 #![tactic(auto)]
 
-ghost use Rattle.std.specs.Prelude.{◌≡◌, true, length, take, Some, None, Ok, Err};
+ghost use Rattle.std.specs.Prelude.{◌≡◌, true, length, take, Some, None, Ok, Err, IfOk, vec_len};
 ghost use Rattle.repertoire.specs.Numbers.{refusal_number};
 
-use account::{Account, Report, report};
+use account::{Account, GUIDE_ROWS, LINK_ROWS, report};
 use repertoire::{Header, Link, Refusal};
 use rule::{Count, Ladder};
-use scale::{Grade, WeaveCost, harness_cost, held_set, weave_cost};
+use scale::{Grade, Scale, WeaveCost, harness_cost, held_set, weave_cost};
 use sheet::encode;
+use std::alloc::{Alloc, AllocError};
+use std::fs::{self, Files};
+use std::io::{self, Print};
 use std::str::from_utf8;
-use std::{fs, io};
 
 mod comparing;
 
 use comparing::choice;
 
-// As many rows as the programs have.
-const LINK_ROWS: usize = 2114;
-
-const GUIDE_ROWS: usize = 1024;
+// The header of the smallest sheets.
+const HEADER: Header = Header {
+    motifs: 1,
+    start: 0,
+    goal: 0,
+};
 
 // The sheets of the folder, and how many rows each is read into.
 const TRIALS: [(&str, usize, usize); 28] = [
@@ -94,106 +98,138 @@ fn is_written_again(
 fn refusal_number(answer: Result<usize, Refusal>) -> Option<u8>
     ensures { elim answer [ Ok n ↦ result ≡ None | Err e ↦ result ≡ Some (refusal_number e) ] }
 {
-    match answer {
-        Ok(_) => None,
-        Err(refusal) => Some(refusal.number()),
-    }
+    answer.err().map(Refusal::number)
 }
 
-fn main(rt: HostRuntime) -> io::Result<()> {
-    let heap = rt.alloc();
+// So many links and guides, all alike.
+fn rows<R: Alloc>(
+    rt: &R,
+    links: usize,
+    guides: usize,
+) -> Result<(Vec<Link<WeaveCost>, R::A>, Vec<WeaveCost, R::A>), AllocError>
+    ensures { IfOk result (λ made. (vec_len made.0 ≡ links) × (vec_len made.1 ≡ guides)) }
+{
     let none = weave_cost(0, 0, 0);
     let link = Link {
         from: 0,
         to: 0,
         cost: none,
     };
-    let mut buffer = vec![in heap; 0u8; 70000]?;
-    for (name, link_rows, guide_rows) in TRIALS {
-        let sheet = fs::read(&rt, name)?;
-        let mut links = vec![in heap; link; link_rows]?;
-        let mut guides = vec![in heap; none; guide_rows]?;
-        let report = report(
-            sheet.as_slice(),
-            links.as_mut_slice(),
-            guides.as_mut_slice(),
-        );
-        println!(rt; "{name}, {link_rows} and {guide_rows} rows")?;
-        print!(rt; "{report}")?;
-        if let Report::Accepted(account) = report {
+    let links = vec![in rt.alloc(); link; links]?;
+    let guides = vec![in rt.alloc(); none; guides]?;
+    Ok((links, guides))
+}
+
+// Reads a sheet of the folder into so many rows, and writes what was read over the front of a buffer.
+fn try_sheet<R: Files + Alloc + Print>(
+    rt: &R,
+    name: &str,
+    link_rows: usize,
+    guide_rows: usize,
+    buffer: &mut [u8],
+) -> io::Result<()> {
+    let sheet = fs::read(rt, name)?;
+    let (mut links, mut guides) = rows(rt, link_rows, guide_rows)?;
+    println!(rt; "{name}, {link_rows} and {guide_rows} rows")?;
+    match report(
+        sheet.as_slice(),
+        links.as_mut_slice(),
+        guides.as_mut_slice(),
+    ) {
+        Ok(account) => {
             let same = is_written_again(
                 &account,
                 links.as_slice(),
                 guides.as_slice(),
                 sheet.as_slice(),
-                buffer.as_mut_slice(),
+                buffer,
             );
-            println!(rt; "Written again byte for byte: {same}")?;
+            print!(rt; "{account}")?;
+            println!(rt; "Written again byte for byte: {same}")
         }
+        Err(rejection) => print!(rt; "{rejection}"),
+    }
+}
+
+// Writes a sheet of so many links and guides over the front of a buffer, and reads it back with so many bytes more.
+fn try_edge<R: Alloc + Print>(
+    rt: &R,
+    link_count: usize,
+    guide_count: usize,
+    more: usize,
+    buffer: &mut [u8],
+) -> io::Result<()> {
+    let (links, guides) = rows(rt, link_count, guide_count)?;
+    let answer = encode(
+        HEADER,
+        links.as_slice(),
+        guides.as_slice(),
+        weave_cost(0, 0, 0),
+        buffer,
+    );
+    let length = answer.unwrap_or(0).saturating_add(more).min(buffer.len());
+    println!(rt; "{link_count} links, {guide_count} guides, {length} bytes")?;
+    let (mut links, mut guides) = rows(rt, LINK_ROWS, GUIDE_ROWS)?;
+    match report(
+        &buffer[0..length],
+        links.as_mut_slice(),
+        guides.as_mut_slice(),
+    ) {
+        Ok(account) => print!(rt; "{account}"),
+        Err(rejection) => print!(rt; "{rejection}"),
+    }
+}
+
+// Compares two costs under their limits, by each rule.
+fn try_costs<S: Scale>(
+    rt: &impl Print,
+    name: &str,
+    limits: S,
+    first: S,
+    second: S,
+) -> io::Result<()> {
+    let sets = (held_set(limits, first), held_set(limits, second));
+    println!(rt; "{name} costs that hold {sets:?}")?;
+    let by_ladder = choice(&Ladder, limits, first, second);
+    println!(rt; "By the ladder {by_ladder} is preferred")?;
+    let by_count = choice(&Count, limits, first, second);
+    println!(rt; "By count {by_count} is preferred")
+}
+
+// Writes the shortest sheet into a buffer of so many bytes.
+fn try_buffer<R: Alloc + Print>(rt: &R, length: usize) -> io::Result<()> {
+    let mut buffer = vec![in rt.alloc(); b'-'; length]?;
+    let answer = encode(HEADER, &[], &[], weave_cost(0, 0, 0), buffer.as_mut_slice());
+    let refused = refusal_number(answer);
+    println!(rt; "The shortest sheet in {length} bytes, refused {refused:?}")?;
+    let text = from_utf8(buffer.as_slice()).unwrap_or("no text");
+    println!(rt; "{text}")
+}
+
+fn main(rt: HostRuntime) -> io::Result<()> {
+    let mut buffer = vec![in rt.alloc(); 0u8; 70000]?;
+    for (name, link_rows, guide_rows) in TRIALS {
+        try_sheet(&rt, name, link_rows, guide_rows, buffer.as_mut_slice())?;
     }
     for (link_count, guide_count, more) in EDGES {
-        let header = Header {
-            motifs: 1,
-            start: 0,
-            goal: 0,
-        };
-        let mut links = vec![in heap; link; link_count]?;
-        let mut guides = vec![in heap; none; guide_count]?;
-        let answer = encode(
-            header,
-            links.as_slice(),
-            guides.as_slice(),
-            none,
-            buffer.as_mut_slice(),
-        );
-        let length = answer.unwrap_or(0).saturating_add(more).min(buffer.len());
-        println!(rt; "{link_count} links, {guide_count} guides, {length} bytes")?;
-        let mut links = vec![in heap; link; LINK_ROWS]?;
-        let mut guides = vec![in heap; none; GUIDE_ROWS]?;
-        let report = report(
-            &buffer.as_slice()[0..length],
-            links.as_mut_slice(),
-            guides.as_mut_slice(),
-        );
-        print!(rt; "{report}")?;
+        try_edge(&rt, link_count, guide_count, more, buffer.as_mut_slice())?;
     }
-    let limits = weave_cost(5, 3, 40);
-    let first = weave_cost(4, 3, 45);
-    let second = weave_cost(6, 3, 25);
-    let sets = (held_set(limits, first), held_set(limits, second));
-    println!(rt; "Weave costs that hold {sets:?}")?;
-    println!(rt;
-        "By the ladder {} is preferred",
-        choice(&Ladder, limits, first, second)
+    try_costs(
+        &rt,
+        "Weave",
+        weave_cost(5, 3, 40),
+        weave_cost(4, 3, 45),
+        weave_cost(6, 3, 25),
     )?;
-    println!(rt;
-        "By count {} is preferred",
-        choice(&Count, limits, first, second)
-    )?;
-    let limits = harness_cost(Grade::Medium, 60);
-    let first = harness_cost(Grade::Large, 10);
-    let second = harness_cost(Grade::Medium, 80);
-    let sets = (held_set(limits, first), held_set(limits, second));
-    println!(rt; "Harness costs that hold {sets:?}")?;
-    println!(rt;
-        "By the ladder {} is preferred",
-        choice(&Ladder, limits, first, second)
-    )?;
-    println!(rt;
-        "By count {} is preferred",
-        choice(&Count, limits, first, second)
+    try_costs(
+        &rt,
+        "Harness",
+        harness_cost(Grade::Medium, 60),
+        harness_cost(Grade::Large, 10),
+        harness_cost(Grade::Medium, 80),
     )?;
     for length in [40, 41, 45] {
-        let mut buffer = vec![in heap; b'-'; length]?;
-        let header = Header {
-            motifs: 1,
-            start: 0,
-            goal: 0,
-        };
-        let answer = encode(header, &[], &[], none, buffer.as_mut_slice());
-        let refused = refusal_number(answer);
-        println!(rt; "The shortest sheet in {length} bytes, refused {refused:?}")?;
-        println!(rt; "{}", from_utf8(buffer.as_slice()).unwrap_or("no text"))?;
+        try_buffer(&rt, length)?;
     }
     Ok(())
 }

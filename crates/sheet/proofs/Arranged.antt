@@ -1,7 +1,6 @@
 -- Frames are in order exactly where they are the entries of a sheet.
-use Rattle.std.proofs.Common.{◌≡◌, Bool, true, false, ◌&&◌, List, [], ◌∷◌, ◌++◌, map, Some, None, Option, sym, refl, ap, ◌∙◌}
+use Rattle.std.proofs.Common.{◌≡◌, Bool, true, ◌&&◌, List, [], ◌∷◌, ◌++◌, map, Some, None, Option, sym, refl, ap, ◌∙◌}
 use Rattle.std.proofs.lemmas.List.{append-nil}
-use Rattle.std.proofs.lemmas.Bool.{both_ways}
 use Rattle.scale.specs.Weave.{WeaveCost, woven}
 use Rattle.repertoire.specs.declared.headers.Header.{Header}
 use Rattle.repertoire.specs.declared.links.Link.{Link}
@@ -34,31 +33,31 @@ pub record Linked (es : List Entry) : Type 0 where
 
 after_end : (es : List Entry) → in_order (Some kind.End) es ≡ true → es ≡ []
 after_end [] h = refl
-after_end (e ∷ es) h = absurd (both_ways false refl h)
+after_end (e ∷ es) h = cc
 
 after_limits : (es : List Entry) → in_order (Some kind.Limits) es ≡ true → es ≡ entry.End ∷ []
-after_limits [] h = absurd (both_ways false refl h)
-after_limits (entry.Header x ∷ es) h = absurd (both_ways false refl h)
-after_limits (entry.Link x ∷ es) h = absurd (both_ways false refl h)
-after_limits (entry.Guide x ∷ es) h = absurd (both_ways false refl h)
-after_limits (entry.Limits x ∷ es) h = absurd (both_ways false refl h)
+after_limits [] h = cc
+after_limits (entry.Header x ∷ es) h = cc
+after_limits (entry.Link x ∷ es) h = cc
+after_limits (entry.Guide x ∷ es) h = cc
+after_limits (entry.Limits x ∷ es) h = cc
 after_limits (entry.End ∷ es) h = ap (λ r. entry.End ∷ r) (after_end es h)
 
 after_guides : (es : List Entry) → in_order (Some kind.Guide) es ≡ true → Guided es
-after_guides [] h = absurd (both_ways false refl h)
-after_guides (entry.Header x ∷ es) h = absurd (both_ways false refl h)
-after_guides (entry.Link x ∷ es) h = absurd (both_ways false refl h)
+after_guides [] h = cc
+after_guides (entry.Header x ∷ es) h = cc
+after_guides (entry.Link x ∷ es) h = cc
 after_guides (entry.Guide x ∷ es) h = let g = after_guides es h in record { guides = x ∷ g.guides; limits = g.limits; is = ap (λ r. entry.Guide x ∷ r) g.is }
 after_guides (entry.Limits x ∷ es) h = record { guides = []; limits = x; is = ap (λ r. entry.Limits x ∷ r) (after_limits es h) }
-after_guides (entry.End ∷ es) h = absurd (both_ways false refl h)
+after_guides (entry.End ∷ es) h = cc
 
 after_links : (es : List Entry) → in_order (Some kind.Link) es ≡ true → Linked es
-after_links [] h = absurd (both_ways false refl h)
-after_links (entry.Header x ∷ es) h = absurd (both_ways false refl h)
+after_links [] h = cc
+after_links (entry.Header x ∷ es) h = cc
 after_links (entry.Link x ∷ es) h = let g = after_links es h in record { links = x ∷ g.links; guides = g.guides; limits = g.limits; is = ap (λ r. entry.Link x ∷ r) g.is }
 after_links (entry.Guide x ∷ es) h = let g = after_guides es h in record { links = []; guides = x ∷ g.guides; limits = g.limits; is = ap (λ r. entry.Guide x ∷ r) g.is }
 after_links (entry.Limits x ∷ es) h = record { links = []; guides = []; limits = x; is = ap (λ r. entry.Limits x ∷ r) (after_limits es h) }
-after_links (entry.End ∷ es) h = absurd (both_ways false refl h)
+after_links (entry.End ∷ es) h = cc
 
 -- behind the header may come what may come behind a link
 header_like_link : (es : List Entry) → in_order (Some kind.Header) es ≡ in_order (Some kind.Link) es
@@ -114,16 +113,16 @@ gathered_back s =
 
 -- entries in order are those of the sheet gathered from them
 pub arranged : (es : List Entry) → in_order None es ≡ true → entries_of (gathered es) ≡ es
-arranged [] h = absurd (both_ways false refl h)
+arranged [] h = cc
 arranged (entry.Header x ∷ es) h =
     let g = after_links es (sym (header_like_link es) ∙ h) in
     let s : Sheet = record { header = x; links = g.links; guides = g.guides; limits = g.limits } in
     let whole : entries_of s ≡ entry.Header x ∷ es = ap (λ r. entry.Header x ∷ r) (sym g.is) in
     ap (λ r. entries_of (gathered r)) (sym whole) ∙ ap entries_of (gathered_back s) ∙ whole
-arranged (entry.Link x ∷ es) h = absurd (both_ways false refl h)
-arranged (entry.Guide x ∷ es) h = absurd (both_ways false refl h)
-arranged (entry.Limits x ∷ es) h = absurd (both_ways false refl h)
-arranged (entry.End ∷ es) h = absurd (both_ways false refl h)
+arranged (entry.Link x ∷ es) h = cc
+arranged (entry.Guide x ∷ es) h = cc
+arranged (entry.Limits x ∷ es) h = cc
+arranged (entry.End ∷ es) h = cc
 
 -- ---- the entries of a sheet are in order
 

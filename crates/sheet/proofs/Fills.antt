@@ -21,7 +21,7 @@ filled_entries f n (l ∷ ls) h = go (is_frame l) (entry_of l) h (λ g. filled_e
       → filled (stored_read f (cond x (ok_or o UnknownFrame) (Err NotAFrame))) ls ≡ fold stored f (option_to_list o ++ entries_in ls)
   go true None e rest = rest f e
   go true (Some x) e rest = rest (stored f x) e
-  go false o e rest = let z : ◌≡◌ {A = ℕ} 0 1 = cc in absurd (omega arith)
+  go false o e rest = cc
 
 -- ---- one row more
 

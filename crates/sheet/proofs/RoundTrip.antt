@@ -1,5 +1,5 @@
 -- A sheet that was accepted is written again, and a sheet that was written reads back.
-use Rattle.std.proofs.Common.{◌≡◌, ℕ, ◌+◌, ◌≤◌, Bool, true, false, cond, ◌&&◌, ltb, List, [], ◌∷◌, ◌++◌, map, length, is_some, IfOk, Some, None, Ok, Err, Option, Result, sym, refl, ap, ◌∙◌, arith}
+use Rattle.std.proofs.Common.{◌≡◌, ℕ, ◌+◌, ◌≤◌, Bool, true, false, cond, ◌&&◌, ltb, List, [], ◌∷◌, ◌++◌, map, length, is_some, IfOk, Some, None, Ok, Err, Option, Result, sym, refl, ap, ◌∙◌}
 use Rattle.std.proofs.lemmas.Bool.{cond-true, cond-false, and_parts, le-ltb, ltb-false}
 use Rattle.std.specs.List.{flat_map, AllByRecursion}
 use Rattle.std.specs.Option.{option_map, option_to_list}
@@ -26,30 +26,30 @@ lines_again n (l ∷ ls) f k = go (is_frame l) refl (kind_of l) refl f k (lines_
       → (first_not (n + 1) is_frame ls ≡ None → first_not (n + 1) (λ r. is_some (kind_of r)) ls ≡ None → flat_map line_of (entries_in ls) ≡ flat_map (λ r. r) ls)
       → flat_map line_of (option_to_list (option_map (λ j. entry_at j (body_of l)) o) ++ entries_in ls) ≡ l ++ flat_map (λ r. r) ls
   go true e (Some j) d f k rest = (λ i. line_again l e j d i ++ rest f k i)
-  go true e None d f k rest = let z : ◌≡◌ {A = ℕ} 0 1 = cc in absurd (omega arith)
-  go false e o d f k rest = let z : ◌≡◌ {A = ℕ} 0 1 = cc in absurd (omega arith)
+  go true e None d f k rest = cc
+  go false e o d f k rest = cc
 
 order_again : (n : ℕ) (last : Option Kind) (ls : List (List ℕ)) → first_not n (λ l. is_some (kind_of l)) ls ≡ None → misplaced n last ls ≡ None → in_order last (entries_in ls) ≡ true
 order_again n last [] k m = go (may_end last) m where
   go : (x : Bool) → cond x None (Some n) ≡ None → x ≡ true
   go true e = refl
-  go false e = let z : ◌≡◌ {A = ℕ} 0 1 = cc in absurd (omega arith)
+  go false e = cc
 order_again n last (l ∷ ls) k m = go (kind_of l) k m (λ j. order_again (n + 1) (Some j) ls) where
   may : (x b : Bool) (rest : Option ℕ) → (rest ≡ None → b ≡ true) → cond x rest (Some n) ≡ None → (x && b) ≡ true
   may true b rest then e = then e
-  may false b rest then e = let z : ◌≡◌ {A = ℕ} 0 1 = cc in absurd (omega arith)
+  may false b rest then e = cc
 
   go : (o : Option Kind) → cond (is_some o) (first_not (n + 1) (λ r. is_some (kind_of r)) ls) (Some n) ≡ None → cond (comes last o) (misplaced (n + 1) (behind last o) ls) (Some n) ≡ None
       → ((j : Kind) → first_not (n + 1) (λ r. is_some (kind_of r)) ls ≡ None → misplaced (n + 1) (Some j) ls ≡ None → in_order (Some j) (entries_in ls) ≡ true)
       → in_order last (option_to_list (option_map (λ j. entry_at j (body_of l)) o) ++ entries_in ls) ≡ true
-  go None k m rest = let z : ◌≡◌ {A = ℕ} 0 1 = cc in absurd (omega arith)
+  go None k m rest = cc
   go (Some j) k m rest =
       (λ i. may_follow last (kind_again j (body_of l) i) && in_order (Some (kind_again j (body_of l) i)) (entries_in ls))
       ∙ may (may_follow last j) (in_order (Some j) (entries_in ls)) (misplaced (n + 1) (Some j) ls) (rest j k) m
 
 unless_ok : {A : Type 0} (o : Option ℕ) (why : Refusal) (r : Result A Fault) (x : A) → unless o why r ≡ Ok x → (o ≡ None) × (r ≡ Ok x)
 unless_ok None why r x e = (refl, e)
-unless_ok (Some n) why r x e = let z : ◌≡◌ {A = ℕ} 0 1 = cc in absurd (omega arith)
+unless_ok (Some n) why r x e = cc
 
 -- what holds of an accepted sheet
 pub record Accepted (link_rows guide_rows : ℕ) (s : List ℕ) (sheet : Sheet) : Type 0 where
@@ -74,8 +74,8 @@ rows_from_none : (link_rows guide_rows links guides : ℕ) → rowless link_rows
 rows_from_none a b c d h = go (ltb a c) (ltb b d) refl refl h where
   go : (x y : Bool) → ltb a c ≡ x → ltb b d ≡ y → cond x (Some (a + 2)) (cond y (Some (c + b + 2)) None) ≡ None → (c ≤ a) × (d ≤ b)
   go false false p q e = (ltb-false a c p, ltb-false b d q)
-  go true y p q e = let z : ◌≡◌ {A = ℕ} 0 1 = cc in absurd (omega arith)
-  go false true p q e = let z : ◌≡◌ {A = ℕ} 0 1 = cc in absurd (omega arith)
+  go true y p q e = cc
+  go false true p q e = cc
 
 pub accepted_rows : (link_rows guide_rows : ℕ) (s : List ℕ) (sheet : Sheet) → decoded link_rows guide_rows s ≡ Ok sheet → (length (links_in (entries_in (lines s))) ≤ link_rows) × (length (guides_in (entries_in (lines s))) ≤ guide_rows)
 accepted_rows link_rows guide_rows s sheet h = rows_from_none link_rows guide_rows _ _ (accepted link_rows guide_rows s sheet h).room

@@ -12,7 +12,7 @@ use Rattle.sheet.specs.declared.faults.Fault.{Fault}
 use Rattle.sheet.specs.declared.surveys.Survey.{Survey}
 use Rattle.sheet.specs.Order.{may_end, comes, first_not, misplaced}
 use Rattle.sheet.specs.Sheets.{Sheet, entries_in, links_in, guides_in, gathered, rowless, unless, decoded}
-use Rattle.sheet.specs.Steps.{noted, one_link, one_guide, begun, with, surveyed, found, fault_of}
+use Rattle.sheet.specs.Steps.{noted, one_link, one_guide, begun, with, surveyed, found, fault_of, unfaulted}
 
 -- the survey of frames that are all frames
 walked : Survey → List (List ℕ) → Survey
@@ -78,19 +78,21 @@ walked_guides v (l ∷ ls) = omega (arith, walked_guides (with v (kind_of l)) ls
 
 -- ---- what the sheet says, by the survey
 
--- refused by a fault, else r
-unfoldable pub unfaulted : {A : Type 0} → Option Fault → Result A Fault → Result A Fault
-unfaulted None r = r
-unfaulted (Some f) r = Err f
-
 unfaulted_found : {A : Type 0} (o : Option ℕ) (why : Refusal) (other : Option Fault) (r : Result A Fault) → unfaulted (found o why other) r ≡ unless o why (unfaulted other r)
-unfolding unfaulted
 unfaulted_found None why other r = refl
 unfaulted_found (Some n) why other r = refl
 
+-- a check alone decides
+pub faulted : {A B : Type 0} (o : Option Fault) (b : B) (r : Result A Fault) {f : Fault} → unfaulted o (Ok b) ≡ Err f → unfaulted o r ≡ Err f
+faulted None b r e = cc
+faulted (Some x) b r e = cc
+
+pub faultless : {A B : Type 0} (o : Option Fault) (b : B) (r : Result A Fault) {x : B} → unfaulted o (Ok b) ≡ Ok x → unfaulted o r ≡ r
+faultless None b r e = refl
+faultless (Some f) b r e = cc
+
 module _ (link_rows guide_rows : ℕ) (s : List ℕ) where
   decoded_walked : decoded link_rows guide_rows s ≡ unless (first_not 1 is_frame (lines s)) NotAFrame (unfaulted (fault_of link_rows guide_rows (walked begun (lines s))) (Ok (gathered (entries_in (lines s)))))
-  unfolding unfaulted
   decoded_walked =
       let first = first_not 1 is_frame (lines s) in
       let w = walked begun (lines s) in
@@ -109,7 +111,7 @@ module _ (link_rows guide_rows : ℕ) (s : List ℕ) where
   pub unframed_decides : (f : Fault) → surveyed begun (lines s) ≡ Err f → decoded link_rows guide_rows s ≡ Err f
   unframed_decides f h = decoded_walked ∙ go (first_not 1 is_frame (lines s)) (sym (surveyed_is begun (lines s)) ∙ h) where
     go : (o : Option ℕ) → unless o NotAFrame (Ok (walked begun (lines s))) ≡ Err f → unless o NotAFrame (unfaulted (fault_of link_rows guide_rows (walked begun (lines s))) (Ok (gathered (entries_in (lines s))))) ≡ Err f
-    go None e = let z : ◌≡◌ {A = ℕ} 0 1 = cc in absurd (omega arith)
+    go None e = cc
     go (Some n) e = let same : record { refusal = NotAFrame; line = n } ≡ f = cc in ap Err same
 
   -- else what the survey finds decides
@@ -120,4 +122,4 @@ module _ (link_rows guide_rows : ℕ) (s : List ℕ) where
     where
       go : (o : Option ℕ) → unless o NotAFrame (Ok (walked begun (lines s))) ≡ Ok v → (o ≡ None) × (unless o NotAFrame (unfaulted (fault_of link_rows guide_rows (walked begun (lines s))) (Ok (gathered (entries_in (lines s))))) ≡ unfaulted (fault_of link_rows guide_rows v) (Ok (gathered (entries_in (lines s)))))
       go None e = let same : walked begun (lines s) ≡ v = cc in (refl, ap (λ w. unfaulted (fault_of link_rows guide_rows w) (Ok (gathered (entries_in (lines s))))) same)
-      go (Some n) e = let z : ◌≡◌ {A = ℕ} 0 1 = cc in absurd (omega arith)
+      go (Some n) e = cc

@@ -70,6 +70,11 @@ fault_of link_rows guide_rows v =
     (found (option_or v.misplaced (noted (may_end v.last) v.line)) FrameOutOfOrder
     (found (rowless link_rows guide_rows v.links v.guides) TooFewRows None))
 
+-- refused by a fault, else r
+abbrev pub unfaulted : {A : Type 0} → Option Fault → Result A Fault → Result A Fault
+unfaulted None r = r
+unfaulted (Some f) r = Err f
+
 -- ---- the second walk: fill the rows
 
 pub record Filling : Type 0 where

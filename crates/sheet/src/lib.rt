@@ -2,11 +2,13 @@
 // written into a buffer that the caller lends. Every line of a sheet is looked at before a row is filled.
 #![tactic(auto)]
 
-ghost use Rattle.std.specs.Prelude.{◌≡◌, ◌+◌, ◌^◌, ◌<◌, Some, None};
+ghost use Rattle.std.specs.Prelude.{◌≡◌, ◌+◌, ◌^◌, ◌<◌, Some, None, Ok};
+ghost use Rattle.std.specs.Option.{option_or};
 ghost use Rattle.frames.specs.Frames.{frame_kind, frame_line};
 ghost use Rattle.frames.specs.Lines.{lines};
-ghost use Rattle.sheet.specs.Order.{may_follow};
-ghost use Rattle.sheet.specs.Steps.{begun, with, surveyed, fault_of};
+ghost use Rattle.sheet.specs.Order.{may_follow, may_end};
+ghost use Rattle.sheet.specs.Sheets.{rowless, unless};
+ghost use Rattle.sheet.specs.Steps.{noted, begun, with, surveyed, fault_of, unfaulted};
 
 use frames::{Frame, Kind, first_line, parse};
 use repertoire::Refusal;
@@ -29,11 +31,10 @@ fn may_follow(last: Option<Kind>, next: Kind) -> bool
     ensures { result ≡ may_follow last next }
 {
     match last {
-        None => matches!(next, Kind::Header),
-        Some(Kind::Header) => matches!(next, Kind::Link | Kind::Guide | Kind::Limits),
-        Some(Kind::Link) => matches!(next, Kind::Link | Kind::Guide | Kind::Limits),
+        None => next == Kind::Header,
+        Some(Kind::Header | Kind::Link) => matches!(next, Kind::Link | Kind::Guide | Kind::Limits),
         Some(Kind::Guide) => matches!(next, Kind::Guide | Kind::Limits),
-        Some(Kind::Limits) => matches!(next, Kind::End),
+        Some(Kind::Limits) => next == Kind::End,
         Some(Kind::End) => false,
     }
 }
@@ -45,11 +46,7 @@ impl Survey {
     {
         Survey {
             line: 1,
-            last: None,
-            unknown: None,
-            misplaced: None,
-            links: 0,
-            guides: 0,
+            ..Survey::default()
         }
     }
 
@@ -68,69 +65,61 @@ impl Survey {
 
     // One frame more.
     fn with_frame(self, frame: &Frame<'_>) -> Survey
-        requires { (self.line + 1 < 2 ^ 64) × ((self.links + 1 < 2 ^ 64) × ((self.guides + 1 < 2 ^ 64) × (frame_line frame.now ≡ self.line))) }
+        requires line { self.line + 1 < 2 ^ 64 }
+        requires links { self.links + 1 < 2 ^ 64 }
+        requires guides { self.guides + 1 < 2 ^ 64 }
+        requires here { frame_line frame.now ≡ self.line }
         ensures { result ≡ with self (Some (frame_kind frame.now)) }
     {
         let kind = frame.kind();
-        let misplaced = if may_follow(self.last, kind) {
-            None
-        } else {
-            Some(frame.line())
-        };
+        let misplaced = (!may_follow(self.last, kind)).then_some(frame.line());
         Survey {
             line: self.line + 1,
             last: Some(kind),
-            unknown: self.unknown,
             misplaced: self.misplaced.or(misplaced),
-            links: if matches!(kind, Kind::Link) {
-                self.links + 1
-            } else {
-                self.links
-            },
-            guides: if matches!(kind, Kind::Guide) {
-                self.guides + 1
-            } else {
-                self.guides
-            },
+            links: self.links + usize::from(kind == Kind::Link),
+            guides: self.guides + usize::from(kind == Kind::Guide),
+            ..self
         }
     }
 
-    // What is wrong with frames that are all surveyed, given so many rows.
-    fn fault(&self, link_rows: usize, guide_rows: usize) -> Option<Fault>
-        requires { link_rows + guide_rows + 2 < 2 ^ 64 }
-        ensures { result ≡ fault_of link_rows guide_rows self.now }
+    // The first frame out of order, or the line behind the last where a frame is missing.
+    fn out_of_order(&self) -> Option<usize>
+        ensures { result ≡ option_or self.now.misplaced (noted (may_end self.now.last) self.now.line) }
     {
-        if let Some(line) = self.unknown {
-            return Some(Fault {
-                refusal: Refusal::UnknownFrame,
-                line,
-            });
-        }
-        if let Some(line) = self.misplaced {
-            return Some(Fault {
-                refusal: Refusal::FrameOutOfOrder,
-                line,
-            });
-        }
-        if !matches!(self.last, Some(Kind::End)) {
-            return Some(Fault {
-                refusal: Refusal::FrameOutOfOrder,
-                line: self.line,
-            });
-        }
+        let ended = self.last == Some(Kind::End);
+        self.misplaced.or((!ended).then_some(self.line))
+    }
+
+    // The first line that finds no row, given so many rows.
+    fn rowless(&self, link_rows: usize, guide_rows: usize) -> Option<usize>
+        requires { link_rows + guide_rows + 2 < 2 ^ 64 }
+        ensures { result ≡ rowless link_rows guide_rows self.now.links self.now.guides }
+    {
         if self.links > link_rows {
-            return Some(Fault {
-                refusal: Refusal::TooFewRows,
-                line: link_rows + 2,
-            });
+            return Some(link_rows + 2);
         }
-        if self.guides > guide_rows {
-            return Some(Fault {
-                refusal: Refusal::TooFewRows,
-                line: self.links + guide_rows + 2,
-            });
-        }
-        None
+        (self.guides > guide_rows).then_some(self.links + guide_rows + 2)
+    }
+
+    // Refuses frames that are all surveyed where something is wrong with them, given so many rows.
+    fn check(&self, link_rows: usize, guide_rows: usize) -> Result<(), Fault>
+        requires { link_rows + guide_rows + 2 < 2 ^ 64 }
+        ensures { result ≡ unfaulted (fault_of link_rows guide_rows self.now) (Ok tt) }
+    {
+        unless(self.unknown, Refusal::UnknownFrame)?;
+        unless(self.out_of_order(), Refusal::FrameOutOfOrder)?;
+        unless(self.rowless(link_rows, guide_rows), Refusal::TooFewRows)
+    }
+}
+
+// Refused where a check finds a line.
+fn unless(line: Option<usize>, refusal: Refusal) -> Result<(), Fault>
+    ensures { result ≡ unless line refusal (Ok tt) }
+{
+    match line {
+        Some(line) => Err(Fault { refusal, line }),
+        None => Ok(()),
     }
 }
 

@@ -1,5 +1,5 @@
 // A sheet read into the rows of its caller.
-ghost use Rattle.std.specs.Prelude.{◌≡◌, ◌+◌, ◌^◌, ◌<◌, ◌≤◌, length, IfOk};
+ghost use Rattle.std.specs.Prelude.{◌≡◌, ◌+◌, ◌^◌, ◌<◌, ◌≤◌, length, slice_set, IfOk};
 ghost use Rattle.frames.specs.Lines.{lines};
 ghost use Rattle.sheet.specs.Sheets.{answered, links_after, guides_after, decoded_into, written};
 ghost use Rattle.sheet.specs.Steps.{filling, empty, stored, filled};
@@ -9,40 +9,38 @@ use frames::{Entry, first_line, read};
 use repertoire::{Header, Link};
 use scale::{WeaveCost, weave_cost};
 
+// Puts a row at its place, if it is there.
+fn put<T: Copy>(rows: &mut [T], at: usize, row: T)
+    ensures { rows.new ≡ slice_set rows.old at row }
+{
+    if at < rows.len() {
+        rows[at] = row;
+    }
+}
+
 // Puts an entry where it belongs; one that has no row is left out.
 fn store(
     entry: Entry,
-    contents: Contents,
+    contents: &mut Contents,
     links: &mut [Link<WeaveCost>],
     guides: &mut [WeaveCost],
-) -> Contents
-    requires { (contents.links + 1 < 2 ^ 64) × (contents.guides + 1 < 2 ^ 64) }
-    ensures { filling result links.new guides.new ≡ stored (filling contents links.old guides.old) entry }
+)
+    requires links { contents.old.links + 1 < 2 ^ 64 }
+    requires guides { contents.old.guides + 1 < 2 ^ 64 }
+    ensures { filling contents.new links.new guides.new ≡ stored (filling contents.old links.old guides.old) entry }
 {
     match entry {
-        Entry::Header(header) => Contents { header, ..contents },
+        Entry::Header(header) => contents.header = header,
         Entry::Link(link) => {
-            let at = contents.links;
-            if at < links.len() {
-                links[at] = link;
-            }
-            Contents {
-                links: at + 1,
-                ..contents
-            }
+            put(links, contents.links, link);
+            contents.links += 1;
         }
         Entry::Guide(guide) => {
-            let at = contents.guides;
-            if at < guides.len() {
-                guides[at] = guide;
-            }
-            Contents {
-                guides: at + 1,
-                ..contents
-            }
+            put(guides, contents.guides, guide);
+            contents.guides += 1;
         }
-        Entry::Limits(limits) => Contents { limits, ..contents },
-        Entry::End => contents,
+        Entry::Limits(limits) => contents.limits = limits,
+        Entry::End => {}
     }
 }
 
@@ -63,7 +61,7 @@ fn fill(sheet: &[u8], links: &mut [Link<WeaveCost>], guides: &mut [WeaveCost]) -
     let mut left = sheet;
     while let Some((text, rest)) = first_line(left) {
         if let Ok(entry) = read(text) {
-            contents = store(entry, contents, links, guides);
+            store(entry, &mut contents, links, guides);
         }
         left = rest;
     }
@@ -84,8 +82,6 @@ pub fn decode(
     ensures again { IfOk (decoded_into links.old guides.old sheet.now) (λ s. written s ≡ sheet.now) }
 {
     let survey = survey(sheet)?;
-    if let Some(fault) = survey.fault(links.len(), guides.len()) {
-        return Err(fault);
-    }
+    survey.check(links.len(), guides.len())?;
     Ok(fill(sheet, links, guides))
 }

@@ -1,4 +1,5 @@
-// A record that has a line of its own for each row: a link, or the guide of a motif.
+// What has a line of its own in a sheet: an entry, or a record that stands in a row, which is a link or the guide of a
+// motif.
 ghost use Rattle.std.specs.Prelude.{◌≡◌};
 ghost use Rattle.frames.specs.declared.entries.Entry.{Entry};
 

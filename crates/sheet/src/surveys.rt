@@ -1,7 +1,7 @@
 // What is known of the lines of a sheet that were looked at so far.
 use frames::Kind;
 
-#[derive(Clone, Copy)]
+#[derive(Clone, Copy, Default)]
 pub struct Survey {
     // The number of the next line.
     pub line: usize,

@@ -10,6 +10,14 @@ use frames::{Entry, write};
 use repertoire::{Header, Link, Refusal};
 use scale::WeaveCost;
 
+impl Row for Entry {
+    ghost said = { λ e. e };
+
+    fn entry(self) -> Entry {
+        self
+    }
+}
+
 impl Row for Link<WeaveCost> {
     ghost said = { LinkEntry };
 
@@ -72,9 +80,8 @@ pub fn encode(
     if sheet_length(links.len(), guides.len()) > buffer.len() as u128 {
         return Err(Refusal::BufferTooShort);
     }
-    let links_at = write(buffer, 0, Entry::Header(header))?;
+    let links_at = write_rows(buffer, 0, &[Entry::Header(header)])?;
     let guides_at = write_rows(buffer, links_at, links)?;
     let limits_at = write_rows(buffer, guides_at, guides)?;
-    let end_at = write(buffer, limits_at, Entry::Limits(limits))?;
-    write(buffer, end_at, Entry::End)
+    write_rows(buffer, limits_at, &[Entry::Limits(limits), Entry::End])
 }

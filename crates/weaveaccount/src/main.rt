@@ -1,16 +1,11 @@
 // Reads a sheet on standard input and prints an account of it in plain words.
 #![tactic(auto)]
 
-use account::{MOST_BYTES, report};
+use account::{GUIDE_ROWS, LINK_ROWS, MOST_BYTES, report};
 use repertoire::Link;
 use scale::weave_cost;
 use std::io;
 use std::io::Read;
-
-// The rows that a sheet may fill.
-const LINK_ROWS: usize = 2114;
-
-const GUIDE_ROWS: usize = 1024;
 
 fn main(rt: HostRuntime) -> io::Result<()> {
     let heap = rt.alloc();
@@ -25,10 +20,12 @@ fn main(rt: HostRuntime) -> io::Result<()> {
         cost: none
     }; LINK_ROWS]?;
     let mut guides = vec![in heap; none; GUIDE_ROWS]?;
-    let report = report(
+    match report(
         sheet.as_slice(),
         links.as_mut_slice(),
         guides.as_mut_slice(),
-    );
-    print!(rt; "{report}")
+    ) {
+        Ok(account) => print!(rt; "{account}"),
+        Err(rejection) => print!(rt; "{rejection}"),
+    }
 }
