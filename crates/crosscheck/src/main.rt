@@ -6,8 +6,8 @@ ghost use Rattle.std.specs.Prelude.{◌≡◌, true, length, take, Some, None, O
 ghost use Rattle.repertoire.specs.Numbers.{refusal_number};
 
 use account::{Account, GUIDE_ROWS, LINK_ROWS, report};
-use repertoire::{Header, Link, Refusal};
-use rule::{Count, Ladder};
+use repertoire::{Header, Link, Refusal, Repertoire};
+use rule::{Count, Ladder, Preference};
 use scale::{Grade, Scale, WeaveCost, harness_cost, held_set, weave_cost};
 use sheet::encode;
 use std::alloc::{Alloc, AllocError};
@@ -88,7 +88,12 @@ fn is_written_again(
     let Some(guides) = guides.get(0..contents.guides) else {
         return false;
     };
-    let Ok(length) = encode(contents.header, links, guides, contents.limits, buffer) else {
+    let read = Repertoire {
+        header: contents.header,
+        links,
+        guides,
+    };
+    let Ok(length) = encode(read, contents.limits, buffer) else {
         return false;
     };
     length == sheet.len() && buffer.starts_with(sheet)
@@ -160,13 +165,12 @@ fn try_edge<R: Alloc + Print>(
     buffer: &mut [u8],
 ) -> io::Result<()> {
     let (links, guides) = rows(rt, link_count, guide_count)?;
-    let answer = encode(
-        HEADER,
-        links.as_slice(),
-        guides.as_slice(),
-        weave_cost(0, 0, 0),
-        buffer,
-    );
+    let repertoire = Repertoire {
+        header: HEADER,
+        links: links.as_slice(),
+        guides: guides.as_slice(),
+    };
+    let answer = encode(repertoire, weave_cost(0, 0, 0), buffer);
     let length = answer.unwrap_or(0).saturating_add(more).min(buffer.len());
     println!(rt; "{link_count} links, {guide_count} guides, {length} bytes")?;
     let (mut links, mut guides) = rows(rt, LINK_ROWS, GUIDE_ROWS)?;
@@ -190,16 +194,35 @@ fn try_costs<S: Scale>(
 ) -> io::Result<()> {
     let sets = (held_set(limits, first), held_set(limits, second));
     println!(rt; "{name} costs that hold {sets:?}")?;
-    let by_ladder = choice(&Ladder, limits, first, second);
+    let by_ladder = choice(
+        &Preference {
+            limits,
+            rule: Ladder,
+        },
+        first,
+        second,
+    );
     println!(rt; "By the ladder {by_ladder} is preferred")?;
-    let by_count = choice(&Count, limits, first, second);
+    let by_count = choice(
+        &Preference {
+            limits,
+            rule: Count,
+        },
+        first,
+        second,
+    );
     println!(rt; "By count {by_count} is preferred")
 }
 
 // Writes the shortest sheet into a buffer of so many bytes.
 fn try_buffer<R: Alloc + Print>(rt: &R, length: usize) -> io::Result<()> {
     let mut buffer = vec![in rt.alloc(); b'-'; length]?;
-    let answer = encode(HEADER, &[], &[], weave_cost(0, 0, 0), buffer.as_mut_slice());
+    let shortest = Repertoire {
+        header: HEADER,
+        links: &[],
+        guides: &[],
+    };
+    let answer = encode(shortest, weave_cost(0, 0, 0), buffer.as_mut_slice());
     let refused = refusal_number(answer);
     println!(rt; "The shortest sheet in {length} bytes, refused {refused:?}")?;
     let text = from_utf8(buffer.as_slice()).unwrap_or("no text");

@@ -7,6 +7,7 @@ use Rattle.repertoire.specs.declared.headers.Header.{Header}
 use Rattle.repertoire.specs.declared.links.Link.{Link}
 use Rattle.repertoire.specs.declared.refusals.Refusal.{Refusal}
 use Rattle.repertoire.specs.declared.refusals.Refusal.TheVariants.{NotAFrame, UnknownFrame, FrameOutOfOrder, TooFewRows, BufferTooShort}
+use Rattle.repertoire.specs.declared.repertoires.Repertoire.{Repertoire}
 use Rattle.frames.specs.declared.entries.Entry.{Entry}
 use Rattle.frames.specs.declared.entries.Entry.TheVariants as entry
 use Rattle.frames.specs.Frames.{is_frame, kind_of, entry_of, line_of}
@@ -40,9 +41,9 @@ text_of es = flat_map line_of es
 abbrev pub written : Sheet → List ℕ
 written s = text_of (entries_of s)
 
--- the records as a sheet
-abbrev pub records : Header → List (Link WeaveCost) → List WeaveCost → WeaveCost → Sheet
-records header links guides limits = record { header = header; links = links; guides = guides; limits = limits }
+-- a lent repertoire and limits as a sheet
+abbrev pub records : Repertoire WeaveCost → WeaveCost → Sheet
+records lent limits = record { header = lent.header; links = lent.links.now; guides = lent.guides.now; limits = limits }
 
 -- ---- reading
 

@@ -7,7 +7,7 @@ ghost use Rattle.sheet.specs.Sheets.{records, text_of, length_in, written_into, 
 
 use super::rows::Row;
 use frames::{Entry, write};
-use repertoire::{Header, Link, Refusal};
+use repertoire::{Link, Refusal, Repertoire};
 use scale::WeaveCost;
 
 impl Row for Entry {
@@ -67,16 +67,19 @@ fn sheet_length(links: usize, guides: usize) -> u128
 // Writes the sheet of a repertoire and its limits at the front of a buffer, and says how long it is; the rest of the
 // buffer stays. Where the buffer is too short, all of it stays.
 pub fn encode(
-    header: Header,
-    links: &[Link<WeaveCost>],
-    guides: &[WeaveCost],
+    repertoire: Repertoire<'_, WeaveCost>,
     limits: WeaveCost,
     buffer: &mut [u8],
 ) -> Result<usize, Refusal>
-    ensures value { result ≡ length_in (records header links.now guides.now limits) buffer.old }
-    ensures after { buffer.new ≡ written_into (records header links.now guides.now limits) buffer.old }
-    ensures back { OnOk result (RoundTrips (records header links.now guides.now limits)) }
+    ensures value { result ≡ length_in (records repertoire.entry limits) buffer.old }
+    ensures after { buffer.new ≡ written_into (records repertoire.entry limits) buffer.old }
+    ensures back { OnOk result (RoundTrips (records repertoire.entry limits)) }
 {
+    let Repertoire {
+        header,
+        links,
+        guides,
+    } = repertoire;
     if sheet_length(links.len(), guides.len()) > buffer.len() as u128 {
         return Err(Refusal::BufferTooShort);
     }

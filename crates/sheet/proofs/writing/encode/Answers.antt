@@ -7,30 +7,30 @@ use Rattle.sheet.proofs.writing.encode.Goals as goal
 
 pub returns-then-sheet_length-buffer : goal.returns-then-sheet_length-buffer
 returns-then-sheet_length-buffer c =
-    let s = records c.args.header c.args.links.now c.args.guides.now c.args.limits in
+    let s = records c.args.repertoire c.args.limits in
     let size = lengths s in
     let short = lt-leb (length (written s)) (length c.args.buffer.now) (omega arith) in
     record { value = rw short; after = rw short; back = tt }
 
 pub write_rows-requires : goal.write_rows-requires
-write_rows-requires c = let size = lengths (records c.args.header c.args.links.now c.args.guides.now c.args.limits) in omega arith
+write_rows-requires c = let size = lengths (records c.args.repertoire c.args.limits) in omega arith
 
 pub write_rows-requires-2 : goal.write_rows-requires-2
 write_rows-requires-2 c =
-    let size = lengths (records c.args.header c.args.links.now c.args.guides.now c.args.limits) in
+    let size = lengths (records c.args.repertoire c.args.limits) in
     let i = rows_end c.in_ok-links_at.ensures.value in
     omega arith
 
 pub write_rows-requires-3 : goal.write_rows-requires-3
 write_rows-requires-3 c =
-    let size = lengths (records c.args.header c.args.links.now c.args.guides.now c.args.limits) in
+    let size = lengths (records c.args.repertoire c.args.limits) in
     let i = rows_end c.in_ok-links_at.ensures.value in
     let j = rows_end c.in_ok-guides_at.ensures.value in
     omega arith
 
 pub write_rows-requires-4 : goal.write_rows-requires-4
 write_rows-requires-4 c =
-    let size = lengths (records c.args.header c.args.links.now c.args.guides.now c.args.limits) in
+    let size = lengths (records c.args.repertoire c.args.limits) in
     let i = rows_end c.in_ok-links_at.ensures.value in
     let j = rows_end c.in_ok-guides_at.ensures.value in
     let k = rows_end c.in_ok-limits_at.ensures.value in
@@ -39,7 +39,7 @@ write_rows-requires-4 c =
 pub returns : goal.returns
 returns c =
     let b = c.args.buffer.now in
-    let s = records c.args.header c.args.links.now c.args.guides.now c.args.limits in
+    let s = records c.args.repertoire c.args.limits in
     let size = lengths s in
     let i = rows_end c.in_ok-links_at.ensures.value in
     let j = rows_end c.in_ok-guides_at.ensures.value in
