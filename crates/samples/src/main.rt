@@ -1,8 +1,8 @@
 // Runs the samples by the calls of the planner, and prints what comes of each.
 #![tactic(auto)]
 
+use anyhow::Result;
 use begun::{begun_stop, begun_trip};
-use faults::Fault;
 use outcomes::Answer;
 use planner::begin;
 use repertoire::{Header, Link, Repertoire};
@@ -13,7 +13,6 @@ use trails::{Step, Trail};
 use trips::{refused, stop, trip};
 
 mod begun;
-mod faults;
 mod outcomes;
 mod rows;
 mod trips;
@@ -52,7 +51,7 @@ const APART: Header = Header {
     goal: 1,
 };
 
-fn main(rt: HostRuntime) -> Result<(), Fault> {
+fn main(rt: HostRuntime) -> Result<()> {
     let limits = weave_cost(5, 3, 40);
     let none = weave_cost(0, 0, 0);
     let links: &[Link<WeaveCost>] = &sheet_links();
