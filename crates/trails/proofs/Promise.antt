@@ -139,11 +139,11 @@ module _ {S R : Type 0} (s : Ghosts S) (laws : Fair s) (q : rules.Ghosts R) (r :
       let ready = k.ready.0 in
       let is : p ≡ plan_at s x trails p.place = k.ready.1 in
       let cost : p.cost ≡ (trail_at s trails p.place).cost = ap (λ y. y.cost) is in
-      let held : p.held ≡ held_set s.shape x.limits (trail_at s trails p.place).cost = ap (λ y. y.held) is in
+      let held : p.held ≡ held_set s.shape x.preference.limits (trail_at s trails p.place).cost = ap (λ y. y.held) is in
       record {
         leads = goal_leads s laws r (prefers_by s q x) (chooses x) t whole p.place ready;
         costs = goal_costs s laws r (prefers_by s q x) (chooses x) t whole p.place ready ∙ sym cost;
-        holds = ap (held_set s.shape x.limits) cost ∙ sym held;
+        holds = ap (held_set s.shape x.preference.limits) cost ∙ sym held;
         none_preferred = λ ks chain. subst (λ c. prefers_by s q x (path_cost s r ks) c ≡ false) (sym cost) (goal_best s laws r (prefers_by s q x) (chooses x) t whole p.place ready ok.guided ks chain);
       }
 
