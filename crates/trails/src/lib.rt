@@ -4,6 +4,7 @@
 
 mod answers;
 mod counting;
+mod guides;
 mod meanings;
 mod outlooks;
 mod sampling;
@@ -13,6 +14,7 @@ mod trails;
 
 pub use answers::{Ending, Run, Step};
 pub use counting::simple_paths_are_listed_once;
+pub use guides::guide_of;
 pub use meanings::answers_mean_what_they_say;
 pub use outlooks::Outlook;
 pub use sampling::samples_stand;
