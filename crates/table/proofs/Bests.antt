@@ -1,5 +1,7 @@
 -- The loop for the best open trail: one place more.
-use Rattle.std.proofs.Common.{◌≡◌, ℕ, zero, suc, ◌+◌, ◌<◌, Bool, true, false, cond, ◌&&◌, List, length, get_or, IfSome, Some, None, Option, sym, refl, ap, ◌∙◌, add-one, arith}
+use Rattle.std.proofs.Common.{◌≡◌, ℕ, zero, suc, ◌+◌, ◌<◌, ◌≤◌, Bool, true, false, cond, ◌&&◌, List, length, get_or, take, IfSome, Some, None, Option, sym, refl, ap, ap₂, ◌∙◌, add-one, arith}
+use Rattle.std.specs.Option.{MatchOption, IsSomeAnd}
+use Rattle.std.proofs.lemmas.List.{get_or-take, length-take-le}
 use Rattle.std.proofs.lemmas.Bool.{cond_both}
 use Rattle.scale.specs.declared.scales.Scale.{Ghosts}
 use Rattle.trails.specs.declared.trails.Trail.{Trail}
@@ -13,6 +15,12 @@ use Rattle.table.proofs.Comparing.{read_at}
 found_further : {S : Type 0} (n : ℕ) (o : Option (ℕ × S)) → IfSome (place_of o) (λ k. k < n) → IfSome (place_of o) (λ k. k < suc n)
 found_further n None h = h
 found_further n (Some chosen) h = omega arith
+
+-- the place out of the best one, by a closure that gives the first of a pair
+pub place_mapped : {S : Type 0} {Gives : ℕ × S → ℕ → Type 0} → ((x : ℕ × S) (k : ℕ) → Gives x k → k ≡ x.0) → (b : Option (ℕ × S)) (o : Option ℕ) → MatchOption b (o ≡ None) (λ x. IsSomeAnd o (Gives x)) → o ≡ place_of b
+place_mapped told None o h = h
+place_mapped told (Some x) None h = absurd h
+place_mapped told (Some x) (Some k) h = ap Some (told x k h)
 
 module _ {S : Type 0} (s : Ghosts S) (r : Repertoire S) (prefers : S → S → Bool) (trails : List (Trail S)) (used : ℕ) where
   -- among no places there is none
@@ -57,3 +65,14 @@ module _ {S : Type 0} (s : Ghosts S) (r : Repertoire S) (prefers : S → S → B
   pub best_within : IfSome (place_of (best s r prefers (tabled trails used))) (λ k. k < used)
   unfolding best
   best_within = best_is_below used
+
+  -- the used places alone have the same best one
+  front_below : (n : ℕ) → n ≤ used → best_below s r prefers (tabled (take used trails) (length (take used trails))) n ≡ best_below s r prefers (tabled trails used) n
+  unfolding best_below
+  front_below zero h = refl
+  front_below (suc n) h =
+      ap₂ (λ (t : Trail S) (o : Option (ℕ × S)). cond (is_open t.state && goes_first prefers (estimate s r t) o) (Some (n, estimate s r t)) o) (get_or-take used trails n _ h) (front_below n (omega arith))
+
+  pub best_front : used ≤ length trails → best s r prefers (tabled (take used trails) (length (take used trails))) ≡ best s r prefers (tabled trails used)
+  unfolding best
+  best_front fits = ap (best_below s r prefers (tabled (take used trails) (length (take used trails)))) (length-take-le used trails fits) ∙ front_below used (omega arith)

@@ -13,7 +13,7 @@ use super::choosing::best_open;
 use super::expanding::expand;
 use super::looking::outlook;
 use repertoire::Repertoire;
-use rule::Rule;
+use rule::{Preference, Rule};
 use scale::Scale;
 use trails::{Outlook, Trail};
 
@@ -29,23 +29,26 @@ impl<'a, S: Scale> TrailTable<'a, S> {
     pub fn best_open<R: Rule>(
         &self,
         repertoire: Repertoire<'_, S>,
-        rule: &R,
-        limits: S,
+        preference: &Preference<S, R>,
     ) -> Option<usize>
         requires { self.now.used ≤ length self.now.trails.now }
-        ensures value { result ≡ place_of (best S.Scale (held_by repertoire.entry) (preferred S.Scale (R.Rule.better rule.now) limits) (tabled self.now.trails.now self.now.used)) }
+        ensures value { result ≡ place_of (best S.Scale (held_by repertoire.entry) (preferred S.Scale (R.Rule.better preference.now.rule) preference.now.limits) (tabled self.now.trails.now self.now.used)) }
         ensures within { IfSome result (λ k. k < self.now.used) }
     {
-        best_open(repertoire, rule, limits, self.trails, self.used)
+        best_open(repertoire, preference, &self.trails[..self.used])
     }
 
     // What lies ahead.
-    pub fn outlook<R: Rule>(&self, repertoire: Repertoire<'_, S>, rule: &R, limits: S) -> Outlook
+    pub fn outlook<R: Rule>(
+        &self,
+        repertoire: Repertoire<'_, S>,
+        preference: &Preference<S, R>,
+    ) -> Outlook
         requires { self.now.used ≤ length self.now.trails.now }
-        ensures value { result ≡ steps.outlook S.Scale (held_by repertoire.entry) (preferred S.Scale (R.Rule.better rule.now) limits) (tabled self.now.trails.now self.now.used) }
+        ensures value { result ≡ steps.outlook S.Scale (held_by repertoire.entry) (preferred S.Scale (R.Rule.better preference.now.rule) preference.now.limits) (tabled self.now.trails.now self.now.used) }
         ensures ready { Ready S.Scale (held_by repertoire.entry) (tabled self.now.trails.now self.now.used) result }
     {
-        outlook(repertoire, rule, limits, self.trails, self.used)
+        outlook(repertoire, preference, self.trails, self.used)
     }
 
     // Expands the trail at the place.
