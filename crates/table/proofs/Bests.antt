@@ -11,6 +11,11 @@ use Rattle.trails.specs.Choosing.{goes_first, estimate_at, best_below, best}
 use Rattle.table.specs.Chosen.{place_of, better_by}
 use Rattle.table.proofs.Comparing.{read_at}
 
+-- one test behind another, or both at once
+both_tests : {X : Type 0} (a b : Bool) (x y : X) → cond a (cond b x y) y ≡ cond (a && b) x y
+both_tests true b x y = refl
+both_tests false b x y = refl
+
 -- a place below n is below the next number
 found_further : {S : Type 0} (n : ℕ) (o : Option (ℕ × S)) → IfSome (place_of o) (λ k. k < n) → IfSome (place_of o) (λ k. k < suc n)
 found_further n None h = h
@@ -23,29 +28,13 @@ place_mapped told (Some x) None h = absurd h
 place_mapped told (Some x) (Some k) h = ap Some (told x k h)
 
 module _ {S : Type 0} (s : Ghosts S) (r : Repertoire S) (prefers : S → S → Bool) (trails : List (Trail S)) (used : ℕ) where
-  -- among no places there is none
-  pub best_none : None ≡ best_below s r prefers (tabled trails used) 0
+  -- one place more: the best so far, b, beside the trail t that was read at place i
+  pub best_more : (i : ℕ) (t : Trail S) → i < length trails → t ≡ get_or trails i t → (b : Option (ℕ × S)) → b ≡ best_below s r prefers (tabled trails used) i
+      → cond (is_open t.state) (better_by prefers i (estimate s r t) b) b ≡ best_below s r prefers (tabled trails used) (i + 1)
   unfolding best_below
-  best_none = refl
-
-  -- the best so far, b, beside the trail that was read at place i
-  module _ (i : ℕ) (t : Trail S) (lt : i < length trails) (read : t ≡ get_or trails i t) (b : Option (ℕ × S)) (so_far : b ≡ best_below s r prefers (tabled trails used) i) where
-    -- one place more, where x says whether the trail there is open
-    next : (x : Bool) → x ≡ is_open t.state → cond (x && goes_first prefers (estimate s r t) b) (Some (i, estimate s r t)) b ≡ best_below s r prefers (tabled trails used) (i + 1)
-    unfolding best_below
-    next x e =
-        ap (λ (y : Bool). cond (y && goes_first prefers (estimate s r t) b) (Some (i, estimate s r t)) b) e
-        ∙ ap (λ (o : Option (ℕ × S)). cond (is_open t.state && goes_first prefers (estimate s r t) o) (Some (i, estimate s r t)) o) so_far
-        ∙ ap (λ (y : Trail S). cond (is_open y.state && goes_first prefers (estimate s r y) (best_below s r prefers (tabled trails used) i)) (Some (i, estimate s r y)) (best_below s r prefers (tabled trails used) i)) (read_at s trails i t lt read)
-        ∙ ap (best_below s r prefers (tabled trails used)) (sym (add-one i))
-
-    -- it is open
-    pub best_open : true ≡ is_open t.state → (e : S) → e ≡ estimate s r t → (o : Option (ℕ × S)) → o ≡ better_by prefers i e b → o ≡ best_below s r prefers (tabled trails used) (i + 1)
-    best_open opened e its o step = step ∙ ap (λ (x : S). better_by prefers i x b) its ∙ next true opened
-
-    -- it is not
-    pub best_passed : false ≡ is_open t.state → b ≡ best_below s r prefers (tabled trails used) (i + 1)
-    best_passed shut = next false shut
+  best_more i t lt read b so_far =
+      let next : Trail S → Option (ℕ × S) → Option (ℕ × S) = λ x o. cond (is_open x.state && goes_first prefers (estimate s r x) o) (Some (i, estimate s r x)) o in
+      both_tests (is_open t.state) _ _ _ ∙ ap₂ next (read_at s trails i t lt read) so_far ∙ ap (best_below s r prefers (tabled trails used)) (sym (add-one i))
 
   -- the place of the best one is among those looked at
   best_is_below : (n : ℕ) → IfSome (place_of (best_below s r prefers (tabled trails used) n)) (λ k. k < n)

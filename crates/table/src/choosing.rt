@@ -1,8 +1,8 @@
 // The best open trail.
-ghost use Rattle.std.specs.Prelude.{◌≡◌, ◌<◌, length, IfSome};
+ghost use Rattle.std.specs.Prelude.{◌≡◌, ◌<◌, length, cond, IfSome};
 ghost use Rattle.rule.specs.Preferred.{preferred};
 ghost use Rattle.trails.specs.Repertoires.{held_by};
-ghost use Rattle.trails.specs.Tables.{tabled, estimate};
+ghost use Rattle.trails.specs.Tables.{is_open, tabled, estimate};
 ghost use Rattle.trails.specs.Choosing.{best};
 ghost use Rattle.table.specs.Chosen.{place_of, better_by};
 
@@ -18,16 +18,21 @@ fn estimate_of<S: Scale>(repertoire: Repertoire<'_, S>, trail: Trail<S>) -> S
     trail.cost.join(guide_of(repertoire, trail.motif))
 }
 
-// The better of the best so far and the open trail at a place with its estimate: the former unless the latter is
+// The better of the best so far and the trail at a place: the former unless the latter is open and its estimate is
 // preferred.
 fn better_of<S: Scale, R: Rule>(
+    repertoire: Repertoire<'_, S>,
     preference: &Preference<S, R>,
     best: Option<(usize, S)>,
     place: usize,
-    estimate: S,
+    trail: Trail<S>,
 ) -> Option<(usize, S)>
-    ensures { result ≡ better_by (preferred S.Scale (R.Rule.better preference.now.rule) preference.now.limits) place estimate best }
+    ensures { result ≡ cond (is_open trail.state) (better_by (preferred S.Scale (R.Rule.better preference.now.rule) preference.now.limits) place (estimate S.Scale (held_by repertoire.entry) trail) best) best }
 {
+    if !trail.state.is_open() {
+        return best;
+    }
+    let estimate = estimate_of(repertoire, trail);
     if best.is_none_or(|(_, its_estimate)| preference.prefers(estimate, its_estimate)) {
         Some((place, estimate))
     } else {
@@ -46,9 +51,7 @@ pub fn best_open<S: Scale, R: Rule>(
 {
     let mut best: Option<(usize, S)> = None;
     for (place, trail) in used.iter().enumerate() {
-        if trail.state.is_open() {
-            best = better_of(preference, best, place, estimate_of(repertoire, *trail));
-        }
+        best = better_of(repertoire, preference, best, place, *trail);
     }
     best.map(|(place, _)| place)
 }

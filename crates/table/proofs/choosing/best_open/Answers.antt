@@ -1,23 +1,18 @@
-use Rattle.std.proofs.Common.{◌≡◌, length, ap, ◌∙◌, arith, rules}
+use Rattle.std.proofs.Common.{◌≡◌, length, refl, ap, ◌∙◌, arith, rules}
 use Rattle.rule.specs.Preferred.{preferred}
 use Rattle.trails.specs.Repertoires.{held_by}
 use Rattle.trails.specs.Tables.{tabled}
-use Rattle.trails.specs.Choosing.{best}
+use Rattle.trails.specs.Choosing.{best_below, best}
 use Rattle.table.specs.Chosen.{place_of}
-use Rattle.table.proofs.Bests.{place_mapped, best_none, best_open, best_passed, best_is, best_within}
+use Rattle.table.proofs.Bests.{place_mapped, best_more, best_is, best_within}
 use Rattle.table.proofs.choosing.best_open.Goals as goal
-use Rattle.table.proofs.choosing.best_open.Goals.{then-is_open, else-is_open}
 
 pub loop-place-init : goal.loop-place-init
-loop-place-init g c = best_none g.S.Scale _ _ _ _
+unfolding best_below
+loop-place-init g c = refl
 
 pub loop-place-preserved : goal.loop-place-preserved
-loop-place-preserved g c = elim c.if-is_open.branch [
-  | then-is_open w ↦
-      w.best-is
-      ∙ best_open g.S.Scale _ _ _ _ _ _ c.loop-place-test.true c.index-used-place.is _ c.loop-place.invariant w.if-is_open.ensures _ w.estimate_of.ensures _ w.better_of-best.ensures
-  | else-is_open w ↦ w.best-is ∙ best_passed g.S.Scale _ _ _ _ _ _ c.loop-place-test.true c.index-used-place.is _ c.loop-place.invariant w.if-is_open.ensures
-]
+loop-place-preserved g c = c.better_of-best.ensures ∙ best_more g.S.Scale _ _ _ _ _ _ c.loop-place-test.true c.index-used-place.is _ c.loop-place.invariant
 
 pub returns : goal.returns
 returns g c =
