@@ -1,5 +1,7 @@
 -- What begin comes to, from the answer of its checks.
-use Rattle.std.proofs.Common.{◌≡◌, ℕ, List, length, set, Some, None, Ok, Err, Option, Result, sym, refl, ap, ◌∙◌, subst, arith, length-set}
+use Rattle.std.proofs.Common.{◌≡◌, ℕ, List, length, set, Some, None, Ok, Err, Option, Result, sym, refl, ap, ◌∙◌, subst, length-set}
+use Rattle.std.specs.Result.{IsErrAnd}
+use Rattle.std.proofs.lemmas.Result.{err_from_is_err_and}
 use Rattle.scale.specs.declared.scales.Scale.{Ghosts}
 use Rattle.scale.specs.Shapes.{Shaped}
 use Rattle.rule.specs.declared.rules.Rule as rules
@@ -22,11 +24,15 @@ use Rattle.planner.specs.Answers.{standing_in, PromiseOf}
 
 pub passed : (o : Option Refusal) {u : Unit {0}} → Ok u ≡ checked o → o ≡ None
 passed None e = refl
-passed (Some why) e = let z : ◌≡◌ {A = ℕ} 0 1 = cc in absurd (omega arith)
+passed (Some why) e = cc
 
 pub failed : (o : Option Refusal) (why : Refusal) → Err why ≡ checked o → o ≡ Some why
-failed None why e = let z : ◌≡◌ {A = ℕ} 0 1 = cc in absurd (omega arith)
+failed None why e = cc
 failed (Some other) why e = cc
+
+-- what the exit of a `?` hands on
+pub handed_on : {A : Type 0} (o : Result A Refusal) (why : Refusal) → IsErrAnd o (λ y. y ≡ why) → o ≡ Err why
+handed_on o why h = let p = err_from_is_err_and o h in p.1 ∙ ap Err p.2
 
 -- ---- begin
 
@@ -35,26 +41,23 @@ module _ {S R : Type 0} (s : Ghosts S) (r : Repertoire S) (limits : S) (rule : R
   abbrev pub started : S → List (Trail S)
   started c = set trails 0 (record { motif = r.header.start; parent = 0; link = 0; cost = c; state = Open })
 
-  begin_refused : (why : Refusal) → first_failing (begin_checks s r trails) ≡ Some why → begin s r limits rule trails ≡ record { answer = Err why; trails = trails }
+  pub begin_refused : (why : Refusal) → Err why ≡ checked (first_failing (begin_checks s r trails)) → (o : Result (Search S R) Refusal) → IsErrAnd o (λ y. y ≡ why) → begin s r limits rule trails ≡ record { answer = standing_in o; trails = trails }
   unfolding begin
-  begin_refused why e = ap (begun_by s r limits rule trails) e
-
-  pub begin_refused_by : (o : Result (Search S R) Refusal) (why : Refusal) → o ≡ Err why → Err why ≡ checked (first_failing (begin_checks s r trails)) → begin s r limits rule trails ≡ record { answer = standing_in o; trails = trails }
-  begin_refused_by o why e f =
+  begin_refused why e o is =
       let told : Result (Search S R) Refusal → Begun S R = λ y. record { answer = standing_in y; trails = trails } in
-      begin_refused why (failed _ why f) ∙ ap told (sym e)
+      ap (begun_by s r limits rule trails) (failed _ why e) ∙ ap told (sym (handed_on o why is))
 
-  pub begin_done : first_failing (begin_checks s r trails) ≡ None → (c : S) → c ≡ s.neutral
-      → begin s r limits rule trails ≡ record { answer = Ok (record { header = r.header; links = link_count r; places = length (started c); used = 1; limits = limits; rule = rule }); trails = started c }
+  pub begin_done : {u : Unit {0}} → Ok u ≡ checked (first_failing (begin_checks s r trails)) → (c : S) → c ≡ s.neutral
+      → begin s r limits rule trails ≡ record { answer = Ok (record { header = r.header; links = link_count r; places = length (started c); used = 1; preference = record { limits = limits; rule = rule } }); trails = started c }
   unfolding begin
   begin_done e c n =
-      let told : ℕ → S → Begun S R = λ places x. record { answer = Ok (record { header = r.header; links = link_count r; places = places; used = 1; limits = limits; rule = rule }); trails = started x } in
-      ap (begun_by s r limits rule trails) e ∙ ap (λ places. told places s.neutral) (sym (length-set trails 0 _)) ∙ ap (told (length (started c))) (sym n)
+      let told : ℕ → S → Begun S R = λ places x. record { answer = Ok (record { header = r.header; links = link_count r; places = places; used = 1; preference = record { limits = limits; rule = rule } }); trails = started x } in
+      ap (begun_by s r limits rule trails) (passed _ e) ∙ ap (λ places. told places s.neutral) (sym (length-set trails 0 _)) ∙ ap (told (length (started c))) (sym n)
 
   module _ (laws : Fair s) (shaped : Shaped s.no_worse s.shape) (q : rules.Ghosts R) (sound : (rule : R) → soundness.Sound (q.better rule)) where
     pub promise_of : (x : Standing S R) (after : List (Trail S)) → begin s r limits rule trails ≡ record { answer = Ok x; trails = after } → Promise s q r x after
     promise_of x after e = subst (Promise s q r x) (ap (λ b. b.trails) e) (promised s laws shaped q sound r limits rule trails x (ap (λ b. b.answer) e))
 
 -- a refused begin promises nothing
-pub nothing_promised : {S R : Type 0} (s : Ghosts S) (q : rules.Ghosts R) (r : Repertoire S) (o : Result (Search S R) Refusal) (why : Refusal) (trails : List (Trail S)) → o ≡ Err why → PromiseOf s q r o trails
-nothing_promised s q r o why trails e = rw e tt
+pub nothing_promised : {S R : Type 0} (s : Ghosts S) (q : rules.Ghosts R) (r : Repertoire S) (o : Result (Search S R) Refusal) (why : Refusal) (trails : List (Trail S)) → IsErrAnd o (λ y. y ≡ why) → PromiseOf s q r o trails
+nothing_promised s q r o why trails is = rw (handed_on o why is) tt

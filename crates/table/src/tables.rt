@@ -17,8 +17,9 @@ use rule::{Preference, Rule};
 use scale::Scale;
 use trails::{Outlook, Trail};
 
-// The row belongs to whoever lends it. A table is made by naming its parts and, at the end, taken apart again, so that the
-// lender knows what the row holds then. No more places are used than there are, and the numbers in a trail reach each.
+// The row belongs to whoever lends it, who knows what it holds once the table is let go. No more places are used than there
+// are, and the numbers in a trail reach each.
+#[derive(Drop)]
 pub struct TrailTable<'a, S> {
     pub trails: &'a mut [Trail<S>],
     pub used: usize,
