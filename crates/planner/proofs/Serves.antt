@@ -18,7 +18,7 @@ use Rattle.trails.specs.Tables.{Table, tabled, trail_at, trail_path}
 use Rattle.trails.specs.Steps.{step_answer, outlook, moved_by, ran_from}
 use Rattle.trails.specs.Checks.{first_failing, is_motif, call_checks}
 use Rattle.trails.specs.Calls.{unless_refused, After, Routed, with_used, refused, table_of, prefers_by, ahead, step_by, step, run_by, run, settle_by, settle, plan_path, route_by, route}
-use Rattle.trails.proofs.Checks.{Served, call_served}
+use Rattle.trails.proofs.Checks.{call_served}
 use Rattle.checks.specs.Answers.{checked}
 use Rattle.planner.specs.Answers.{settled_by, IsFound}
 use Rattle.planner.proofs.Begins.{passed, failed, handed_on}
@@ -47,10 +47,6 @@ module _ {S R : Type 0} (s : Ghosts S) (q : rules.Ghosts R) (r : Repertoire S) (
   module _ {u : Unit {0}} (e : Ok u ≡ checked (first_failing (call_checks s r x trails))) where
     passes : first_failing (call_checks s r x trails) ≡ None
     passes = passed _ e
-
-    -- what the code may rely on
-    pub served : Served s r x trails
-    served = call_served s r x trails passes
 
     -- where so many places are used: what the code found, and the table that it left, are the step
     pub step_done : (held : ℕ) → held ≡ x.used → (o : Outlook) → o ≡ outlook s r (prefers_by s q x) (tabled trails held) → (answer : Result Step Refusal) → answer ≡ step_answer o
