@@ -18,7 +18,7 @@ use Rattle.trails.proofs.Invariant.{Fair}
 use Rattle.trails.proofs.Promise.{promised}
 use Rattle.checks.specs.Answers.{checked}
 use Rattle.planner.specs.declared.searches.Search.{Search}
-use Rattle.planner.specs.Answers.{standing_in, PromiseOf}
+use Rattle.planner.specs.Answers.{standing_in}
 
 -- ---- the answer of a list of checks
 
@@ -57,7 +57,3 @@ module _ {S R : Type 0} (s : Ghosts S) (r : Repertoire S) (limits : S) (rule : R
   module _ (laws : Fair s) (shaped : Shaped s.no_worse s.shape) (q : rules.Ghosts R) (sound : (rule : R) → soundness.Sound (q.better rule)) where
     pub promise_of : (x : Standing S R) (after : List (Trail S)) → begin s r limits rule trails ≡ record { answer = Ok x; trails = after } → Promise s q r x after
     promise_of x after e = subst (Promise s q r x) (ap (λ b. b.trails) e) (promised s laws shaped q sound r limits rule trails x (ap (λ b. b.answer) e))
-
--- a refused begin promises nothing
-pub nothing_promised : {S R : Type 0} (s : Ghosts S) (q : rules.Ghosts R) (r : Repertoire S) (o : Result (Search S R) Refusal) (why : Refusal) (trails : List (Trail S)) → IsErrAnd o (λ y. y ≡ why) → PromiseOf s q r o trails
-nothing_promised s q r o why trails is = rw (handed_on o why is) tt

@@ -1,5 +1,5 @@
 -- What a call comes to, from the answer of its checks.
-use Rattle.std.proofs.Common.{◌≡◌, ℕ, zero, suc, ◌<◌, ◌≤◌, ◌&&◌, ltb, List, ◌++◌, length, drop, Some, None, Ok, Err, Result, sym, refl, ap, ◌∙◌, subst, arith}
+use Rattle.std.proofs.Common.{◌≡◌, ℕ, zero, suc, ◌<◌, ◌≤◌, ◌&&◌, ltb, List, ◌++◌, length, drop, Some, None, Ok, Err, Result, sym, refl, ap, ◌∙◌, arith}
 use Rattle.std.specs.Result.{IsErrAnd}
 use Rattle.std.proofs.lemmas.Bool.{and_parts, ltb-true, le-leb, lt-leb, cond-true, cond-false}
 use Rattle.scale.specs.declared.scales.Scale.{Ghosts}
@@ -20,7 +20,7 @@ use Rattle.trails.specs.Checks.{first_failing, is_motif, call_checks}
 use Rattle.trails.specs.Calls.{unless_refused, After, Routed, with_used, refused, table_of, prefers_by, ahead, step_by, step, run_by, run, settle_by, settle, plan_path, route_by, route}
 use Rattle.trails.proofs.Checks.{call_served}
 use Rattle.checks.specs.Answers.{checked}
-use Rattle.planner.specs.Answers.{settled_by, IsFound}
+use Rattle.planner.specs.Answers.{settled_by}
 use Rattle.planner.proofs.Begins.{passed, failed, handed_on}
 
 module _ {S R : Type 0} (s : Ghosts S) (q : rules.Ghosts R) (r : Repertoire S) (x : Standing S R) (trails : List (Trail S)) where
@@ -88,10 +88,6 @@ not_settled s x trails NoneOpen away = refl
 not_settled s x trails (AtGoal place) away = absurd (away place refl)
 not_settled s x trails (Cramped place) away = refl
 not_settled s x trails (Roomy place) away = refl
-
--- a refusal finds nothing
-pub nothing_found : {S R : Type 0} (x : Standing S R) (trails : List (Trail S)) (o : Result ℕ Refusal) (why : Refusal) → IsErrAnd o (λ y. y ≡ why) → IsFound x trails o
-nothing_found x trails o why is = rw (handed_on o why is) tt
 
 -- ---- route
 

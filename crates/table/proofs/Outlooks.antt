@@ -6,7 +6,7 @@ use Rattle.scale.specs.declared.scales.Scale.{Ghosts}
 use Rattle.trails.specs.declared.outlooks.Outlook.TheVariants.{NoneOpen, AtGoal, Cramped, Roomy}
 use Rattle.trails.specs.declared.trails.Trail.{Trail}
 use Rattle.trails.specs.Repertoires.{Repertoire, leaving_count}
-use Rattle.trails.specs.Tables.{Table, tabled, trail_at, unused}
+use Rattle.trails.specs.Tables.{Table, tabled, unused}
 use Rattle.trails.specs.Choosing.{best}
 use Rattle.trails.specs.Steps.{motif_at, outlook_by, outlook}
 use Rattle.table.specs.Chosen.{place_of}

@@ -1,12 +1,9 @@
 use Rattle.trails.specs.Repertoires.{held_by}
-use Rattle.planner.proofs.Begins.{begin_refused, begin_done, promise_of, nothing_promised}
+use Rattle.planner.proofs.Begins.{begin_refused, begin_done, promise_of}
 use Rattle.planner.proofs.beginning.begin.Goals as goal
 
-pub returns-in_err-check_begin : goal.returns-in_err-check_begin
-returns-in_err-check_begin g c = record {
-  value = begin_refused g.S.Scale (held_by c.args.repertoire) c.args.limits c.args.rule c.args.trails.now _ c.in_err-check_begin.ensures _ c.from_residual.ensures.1;
-  promise = nothing_promised g.S.Scale g.R.Rule (held_by c.args.repertoire) _ _ c.args.trails.now c.from_residual.ensures.1;
-}
+pub returns-in_err-check_begin-clause-value : goal.returns-in_err-check_begin-clause-value
+returns-in_err-check_begin-clause-value g c = begin_refused g.S.Scale (held_by c.args.repertoire) c.args.limits c.args.rule c.args.trails.now _ c.in_err-check_begin.ensures _ c.from_residual.ensures.1
 
 pub returns : goal.returns
 returns g c =

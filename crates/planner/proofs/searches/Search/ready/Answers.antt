@@ -1,13 +1,11 @@
 use Rattle.std.proofs.Common.{◌∙◌}
 use Rattle.trails.specs.Repertoires.{held_by}
-use Rattle.planner.proofs.Serves.{settle_refused, nothing_found, settle_served, not_settled}
+use Rattle.planner.proofs.Serves.{settle_refused, settle_served, not_settled}
 use Rattle.planner.proofs.searches.Search.ready.Goals as goal
 
-pub returns-in_err-check_call : goal.returns-in_err-check_call
-returns-in_err-check_call g c = record {
-  value = settle_refused g.S.Scale g.R.Rule (held_by c.args.repertoire) c.args.self.now.standing c.args.trails.now _ c.in_err-check_call.ensures _ c.from_residual.ensures.1;
-  found = nothing_found c.args.self.now.standing _ _ _ c.from_residual.ensures.1;
-}
+pub returns-in_err-check_call-clause-value : goal.returns-in_err-check_call-clause-value
+returns-in_err-check_call-clause-value g c =
+    settle_refused g.S.Scale g.R.Rule (held_by c.args.repertoire) c.args.self.now.standing c.args.trails.now _ c.in_err-check_call.ensures _ c.from_residual.ensures.1
 
 pub returns-in-AtGoal-clause-value : goal.returns-in-AtGoal-clause-value
 returns-in-AtGoal-clause-value g c =
