@@ -33,9 +33,9 @@ use Rattle.trails.proofs.Histories.{new_sound, Kept, step_is, run_is, history_ke
 
 no_way_ahead : (o : Outlook) → step_answer o ≡ Ok answer.NoWay → o ≡ NoneOpen
 no_way_ahead NoneOpen e = refl
-no_way_ahead (AtGoal p) e = let z : ◌≡◌ {A = ℕ} 0 1 = cc in absurd (omega arith)
-no_way_ahead (Cramped p) e = let z : ◌≡◌ {A = ℕ} 0 1 = cc in absurd (omega arith)
-no_way_ahead (Roomy p) e = let z : ◌≡◌ {A = ℕ} 0 1 = cc in absurd (omega arith)
+no_way_ahead (AtGoal p) e = cc
+no_way_ahead (Cramped p) e = cc
+no_way_ahead (Roomy p) e = cc
 
 refused_ahead : (o : Outlook) → RefusesWith 23 (step_answer o) → (p : ℕ) × (o ≡ Cramped p)
 refused_ahead NoneOpen e = absurd e
@@ -182,7 +182,7 @@ module _ {S R : Type 0} (s : Ghosts S) (laws : Fair s) (shaped : Shaped s.no_wor
     promised = go (first_failing (begin_checks s r places)) refl
       where
         go : (o : Option Refusal) → first_failing (begin_checks s r places) ≡ o → (begun_by s r limits rule places o).answer ≡ Ok first → Promise s q r first (begun_by s r limits rule places o).trails
-        go (Some why) e a = let z : ◌≡◌ {A = ℕ} 0 1 = cc in absurd (omega arith)
+        go (Some why) e a = cc
         go None e a =
             let ok = begin_accepted s r places e in
             let is : new_standing r limits rule places ≡ first = cc in
