@@ -12,7 +12,7 @@ use Rattle.trails.specs.declared.states.State.TheVariants.{Open}
 use Rattle.trails.specs.declared.trails.Trail.{Trail}
 use Rattle.trails.specs.Repertoires.{Repertoire, link_count}
 use Rattle.trails.specs.Checks.{first_failing, begin_checks}
-use Rattle.trails.specs.Calls.{Begun, begun_by, begin}
+use Rattle.trails.specs.Calls.{unless_refused, Begun, begin}
 use Rattle.trails.specs.Promise.{Promise}
 use Rattle.trails.proofs.Invariant.{Fair}
 use Rattle.trails.proofs.Promise.{promised}
@@ -26,13 +26,18 @@ pub passed : (o : Option Refusal) {u : Unit {0}} → Ok u ≡ checked o → o �
 passed None e = refl
 passed (Some why) e = cc
 
-pub failed : (o : Option Refusal) (why : Refusal) → Err why ≡ checked o → o ≡ Some why
-failed None why e = cc
-failed (Some other) why e = cc
+-- they passed, and the call is done
+pub served : {A : Type 0} (o : Option Refusal) {u : Unit {0}} → Ok u ≡ checked o → (refused : Refusal → A) (done : A) → unless_refused o refused done ≡ done
+served o e refused done = ap (λ f. unless_refused f refused done) (passed o e)
 
--- what the exit of a `?` hands on
-pub handed_on : {A : Type 0} (o : Result A Refusal) (why : Refusal) → IsErrAnd o (λ y. y ≡ why) → o ≡ Err why
-handed_on o why h = let p = err_from_is_err_and o h in p.1 ∙ ap Err p.2
+-- one failed, and the call hands its refusal on by a `?`, where it tells so of a result
+pub refused_by : {A B : Type 0} (o : Option Refusal) (why : Refusal) → Err why ≡ checked o → (answer : Result A Refusal) → IsErrAnd answer (λ y. y ≡ why) → (told : Result A Refusal → B) (done : B)
+    → unless_refused o (λ y. told (Err y)) done ≡ told answer
+refused_by None why e answer is told done = cc
+refused_by (Some other) why e answer is told done =
+    let p = err_from_is_err_and answer is in
+    let same : other ≡ why = cc in
+    ap (λ y. told (Err y)) (same ∙ sym p.2) ∙ ap told (sym p.1)
 
 -- ---- begin
 
@@ -43,16 +48,14 @@ module _ {S R : Type 0} (s : Ghosts S) (r : Repertoire S) (limits : S) (rule : R
 
   pub begin_refused : (why : Refusal) → Err why ≡ checked (first_failing (begin_checks s r trails)) → (o : Result (Search S R) Refusal) → IsErrAnd o (λ y. y ≡ why) → begin s r limits rule trails ≡ record { answer = standing_in o; trails = trails }
   unfolding begin
-  begin_refused why e o is =
-      let told : Result (Search S R) Refusal → Begun S R = λ y. record { answer = standing_in y; trails = trails } in
-      ap (begun_by s r limits rule trails) (failed _ why e) ∙ ap told (sym (handed_on o why is))
+  begin_refused why e o is = refused_by _ why e o is (λ y. record { answer = standing_in y; trails = trails }) _
 
   pub begin_done : {u : Unit {0}} → Ok u ≡ checked (first_failing (begin_checks s r trails)) → (c : S) → c ≡ s.neutral
       → begin s r limits rule trails ≡ record { answer = Ok (record { header = r.header; links = link_count r; places = length (started c); used = 1; preference = record { limits = limits; rule = rule } }); trails = started c }
   unfolding begin
   begin_done e c n =
       let told : ℕ → S → Begun S R = λ places x. record { answer = Ok (record { header = r.header; links = link_count r; places = places; used = 1; preference = record { limits = limits; rule = rule } }); trails = started x } in
-      ap (begun_by s r limits rule trails) (passed _ e) ∙ ap (λ places. told places s.neutral) (sym (length-set trails 0 _)) ∙ ap (told (length (started c))) (sym n)
+      served (first_failing (begin_checks s r trails)) e _ _ ∙ ap (λ places. told places s.neutral) (sym (length-set trails 0 _)) ∙ ap (told (length (started c))) (sym n)
 
   module _ (laws : Fair s) (shaped : Shaped s.no_worse s.shape) (q : rules.Ghosts R) (sound : (rule : R) → soundness.Sound (q.better rule)) where
     pub promise_of : (x : Standing S R) (after : List (Trail S)) → begin s r limits rule trails ≡ record { answer = Ok x; trails = after } → Promise s q r x after

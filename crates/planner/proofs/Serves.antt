@@ -1,5 +1,5 @@
 -- What a call comes to, from the answer of its checks.
-use Rattle.std.proofs.Common.{◌≡◌, ℕ, zero, suc, ◌<◌, ◌≤◌, ◌&&◌, ltb, List, ◌++◌, length, drop, Some, None, Ok, Err, Result, sym, refl, ap, ◌∙◌, arith}
+use Rattle.std.proofs.Common.{◌≡◌, ℕ, zero, suc, ◌<◌, ◌≤◌, ◌&&◌, ltb, List, ◌++◌, length, drop, Ok, Err, Result, sym, refl, ap, ◌∙◌, arith}
 use Rattle.std.specs.Result.{IsErrAnd}
 use Rattle.std.proofs.lemmas.Bool.{and_parts, ltb-true, le-leb, lt-leb, cond-true, cond-false}
 use Rattle.scale.specs.declared.scales.Scale.{Ghosts}
@@ -17,37 +17,22 @@ use Rattle.trails.specs.Repertoires.{Repertoire, link_count}
 use Rattle.trails.specs.Tables.{Table, tabled, trail_at, trail_path}
 use Rattle.trails.specs.Steps.{step_answer, outlook, moved_by, ran_from}
 use Rattle.trails.specs.Checks.{first_failing, is_motif, call_checks}
-use Rattle.trails.specs.Calls.{unless_refused, After, Routed, with_used, refused, table_of, prefers_by, ahead, step_by, step, run_by, run, settle_by, settle, plan_path, route_by, route}
+use Rattle.trails.specs.Calls.{After, Routed, with_used, refused, table_of, prefers_by, ahead, step_by, step, run_by, run, settle_by, settle, plan_path, route_by, route}
 use Rattle.trails.proofs.Checks.{call_served}
 use Rattle.checks.specs.Answers.{checked}
 use Rattle.planner.specs.Answers.{settled_by}
-use Rattle.planner.proofs.Begins.{passed, failed, handed_on}
+use Rattle.planner.proofs.Begins.{passed, served, refused_by}
 
 module _ {S R : Type 0} (s : Ghosts S) (q : rules.Ghosts R) (r : Repertoire S) (x : Standing S R) (trails : List (Trail S)) where
-  -- ---- refused
+  pub step_refused : (why : Refusal) → Err why ≡ checked (first_failing (call_checks s r x trails)) → (o : Result Step Refusal) → IsErrAnd o (λ y. y ≡ why) → step s q r x trails ≡ record { answer = o; standing = x; trails = trails }
+  unfolding step
+  step_refused why e o is = refused_by _ why e o is (λ y. record { answer = y; standing = x; trails = trails }) _
 
-  module _ (why : Refusal) (e : Err why ≡ checked (first_failing (call_checks s r x trails))) where
-    fails : first_failing (call_checks s r x trails) ≡ Some why
-    fails = failed _ why e
-
-    pub step_refused : (o : Result Step Refusal) → IsErrAnd o (λ y. y ≡ why) → step s q r x trails ≡ record { answer = o; standing = x; trails = trails }
-    unfolding step
-    step_refused o is =
-        let told : Result Step Refusal → After Step S R = λ y. record { answer = y; standing = x; trails = trails } in
-        ap (λ f. unless_refused f (refused x trails) (step_by s r x trails (ahead s q r x trails))) fails ∙ ap told (sym (handed_on o why is))
-
-    pub run_refused : (budget : ℕ) (o : Result Run Refusal) → IsErrAnd o (λ y. y ≡ why) → run s q r budget x trails ≡ record { answer = o; standing = x; trails = trails }
-    unfolding run
-    run_refused budget o is =
-        let told : Result Run Refusal → After Run S R = λ y. record { answer = y; standing = x; trails = trails } in
-        ap (λ f. unless_refused f (refused x trails) (run_by x (ran_from s r (prefers_by s q x) budget (table_of x trails)))) fails ∙ ap told (sym (handed_on o why is))
-
-  -- ---- served
+  pub run_refused : (why : Refusal) → Err why ≡ checked (first_failing (call_checks s r x trails)) → (budget : ℕ) (o : Result Run Refusal) → IsErrAnd o (λ y. y ≡ why) → run s q r budget x trails ≡ record { answer = o; standing = x; trails = trails }
+  unfolding run
+  run_refused why e budget o is = refused_by _ why e o is (λ y. record { answer = y; standing = x; trails = trails }) _
 
   module _ {u : Unit {0}} (e : Ok u ≡ checked (first_failing (call_checks s r x trails))) where
-    passes : first_failing (call_checks s r x trails) ≡ None
-    passes = passed _ e
-
     -- where so many places are used: what the code found, and the table that it left, are the step
     pub step_done : (held : ℕ) → held ≡ x.used → (o : Outlook) → o ≡ outlook s r (prefers_by s q x) (tabled trails held) → (answer : Result Step Refusal) → answer ≡ step_answer o
         → (t : Table S) → t ≡ moved_by s r (tabled trails held) o → (after : List (Trail S)) → after ≡ t.trails → step s q r x trails ≡ record { answer = answer; standing = with_used x t.used; trails = after }
@@ -55,7 +40,7 @@ module _ {S R : Type 0} (s : Ghosts S) (q : rules.Ghosts R) (r : Repertoire S) (
     step_done held h o is answer a t moved after left =
         let told : Result Step Refusal → Table S → List (Trail S) → After Step S R = λ y u ts. record { answer = y; standing = with_used x u.used; trails = ts } in
         let made : Table S → Outlook → After Step S R = λ u y. told (step_answer y) (moved_by s r u y) (moved_by s r u y).trails in
-        ap (λ f. unless_refused f (refused x trails) (step_by s r x trails (ahead s q r x trails))) passes
+        served (first_failing (call_checks s r x trails)) e (refused x trails) (step_by s r x trails (ahead s q r x trails))
         ∙ ap (λ u. made (tabled trails u) (outlook s r (prefers_by s q x) (tabled trails u))) (sym h) ∙ ap (made (tabled trails held)) (sym is)
         ∙ ap (λ u. told (step_answer o) u u.trails) (sym moved) ∙ ap (λ y. told y t t.trails) (sym a) ∙ ap (told answer t) (sym left)
 
@@ -64,7 +49,7 @@ module _ {S R : Type 0} (s : Ghosts S) (q : rules.Ghosts R) (r : Repertoire S) (
     unfolding run
     run_done held h budget answer t ran after left =
         let told : List (Trail S) → After Run S R = λ ts. record { answer = Ok answer; standing = with_used x t.used; trails = ts } in
-        ap (λ f. unless_refused f (refused x trails) (run_by x (ran_from s r (prefers_by s q x) budget (table_of x trails)))) passes
+        served (first_failing (call_checks s r x trails)) e (refused x trails) (run_by x (ran_from s r (prefers_by s q x) budget (table_of x trails)))
         ∙ ap (λ u. run_by x (ran_from s r (prefers_by s q x) budget (tabled trails u))) (sym h) ∙ ap (run_by x) (sym ran) ∙ ap told (sym left)
 
 -- ---- settle
@@ -72,14 +57,14 @@ module _ {S R : Type 0} (s : Ghosts S) (q : rules.Ghosts R) (r : Repertoire S) (
 module _ {S R : Type 0} (s : Ghosts S) (q : rules.Ghosts R) (r : Repertoire S) (x : Standing S R) (trails : List (Trail S)) where
   pub settle_refused : (why : Refusal) → Err why ≡ checked (first_failing (call_checks s r x trails)) → (o : Result ℕ Refusal) → IsErrAnd o (λ y. y ≡ why) → settle s q r x trails ≡ settled_by s x trails o
   unfolding settle
-  settle_refused why e o is = ap (λ f. unless_refused f (λ y. Err (x, y)) (settle_by s x trails (ahead s q r x trails))) (failed _ why e) ∙ ap (settled_by s x trails) (sym (handed_on o why is))
+  settle_refused why e o is = refused_by _ why e o is (settled_by s x trails) _
 
   -- where so many places are used: by the outlook that the code found
   pub settle_served : {u : Unit {0}} → Ok u ≡ checked (first_failing (call_checks s r x trails)) → (held : ℕ) → held ≡ x.used → (o : Outlook) → o ≡ outlook s r (prefers_by s q x) (tabled trails held)
       → settle s q r x trails ≡ settle_by s x trails o
   unfolding settle
   settle_served e held h o is =
-      ap (λ f. unless_refused f (λ y. Err (x, y)) (settle_by s x trails (ahead s q r x trails))) (passed _ e)
+      served (first_failing (call_checks s r x trails)) e (λ y. Err (x, y)) (settle_by s x trails (ahead s q r x trails))
       ∙ ap (λ u. settle_by s x trails (outlook s r (prefers_by s q x) (tabled trails u))) (sym h) ∙ ap (settle_by s x trails) (sym is)
 
 -- nothing is settled where the best open trail is not at the goal
@@ -94,14 +79,12 @@ not_settled s x trails (Roomy place) away = refl
 module _ {S R : Type 0} (s : Ghosts S) (r : Repertoire S) (p : Settled S R) (trails : List (Trail S)) (buffer : List ℕ) where
   pub route_refused : (why : Refusal) → Err why ≡ checked (first_failing (call_checks s r p.standing trails)) → (o : Result ℕ Refusal) → IsErrAnd o (λ y. y ≡ why) → route s r p trails buffer ≡ record { answer = o; buffer = buffer }
   unfolding route
-  route_refused why e o is =
-      let told : Result ℕ Refusal → Routed = λ y. record { answer = y; buffer = buffer } in
-      ap (λ f. unless_refused f (λ y. told (Err y)) (route_by (plan_path s p trails) buffer)) (failed _ why e) ∙ ap told (sym (handed_on o why is))
+  route_refused why e o is = refused_by _ why e o is (λ y. record { answer = y; buffer = buffer }) _
 
   module _ {u : Unit {0}} (e : Ok u ≡ checked (first_failing (call_checks s r p.standing trails))) where
     route_is : route s r p trails buffer ≡ route_by (plan_path s p trails) buffer
     unfolding route
-    route_is = ap (λ f. unless_refused f (λ y. record { answer = Err y; buffer = buffer }) (route_by (plan_path s p trails) buffer)) (passed _ e)
+    route_is = served (first_failing (call_checks s r p.standing trails)) e _ _
 
     -- the parents of the used places are lower places
     pub lower_parents : (i : ℕ) → 0 < i → i < p.standing.used → (trail_at s trails i).parent < i
