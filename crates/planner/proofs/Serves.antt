@@ -1,12 +1,11 @@
 -- What a call comes to, from the answer of its checks.
-use Rattle.std.proofs.Common.{◌≡◌, ℕ, zero, suc, ◌<◌, ◌≤◌, ◌&&◌, ltb, List, ◌++◌, length, drop, Some, None, Ok, Err, Result, sym, refl, ap, ◌∙◌, subst, arith}
+use Rattle.std.proofs.Common.{◌≡◌, ℕ, zero, suc, ◌<◌, ◌≤◌, ◌&&◌, ltb, List, ◌++◌, length, drop, Ok, Err, Result, sym, refl, ap, ◌∙◌, arith}
+use Rattle.std.specs.Result.{IsErrAnd}
 use Rattle.std.proofs.lemmas.Bool.{and_parts, ltb-true, le-leb, lt-leb, cond-true, cond-false}
 use Rattle.scale.specs.declared.scales.Scale.{Ghosts}
-use Rattle.scale.specs.Shapes.{held_set}
 use Rattle.rule.specs.declared.rules.Rule as rules
 use Rattle.repertoire.specs.declared.refusals.Refusal.{Refusal}
 use Rattle.repertoire.specs.declared.refusals.Refusal.TheVariants.{RouteTooLong, NotSettled}
-use Rattle.trails.specs.declared.answers.Ending.{Ending}
 use Rattle.trails.specs.declared.answers.Run.{Run}
 use Rattle.trails.specs.declared.answers.Step.{Step}
 use Rattle.trails.specs.declared.outlooks.Outlook.{Outlook}
@@ -15,123 +14,77 @@ use Rattle.trails.specs.declared.standings.Settled.{Settled}
 use Rattle.trails.specs.declared.standings.Standing.{Standing}
 use Rattle.trails.specs.declared.trails.Trail.{Trail}
 use Rattle.trails.specs.Repertoires.{Repertoire, link_count}
-use Rattle.trails.specs.Tables.{tabled, trail_at, trail_path}
+use Rattle.trails.specs.Tables.{Table, tabled, trail_at, trail_path}
 use Rattle.trails.specs.Steps.{step_answer, outlook, moved_by, ran_from}
 use Rattle.trails.specs.Checks.{first_failing, is_motif, call_checks}
-use Rattle.trails.specs.Calls.{unless_refused, After, Routed, with_used, refused, table_of, prefers_by, ahead, step_by, step, run_by, run, settle_by, settle, plan_path, route_by, route}
-use Rattle.trails.proofs.Checks.{Served, call_served}
+use Rattle.trails.specs.Calls.{After, Routed, with_used, refused, table_of, prefers_by, ahead, step_by, step, run_by, run, settle_by, settle, plan_path, route_by, route}
+use Rattle.trails.proofs.Checks.{call_served}
 use Rattle.checks.specs.Answers.{checked}
-use Rattle.planner.specs.declared.moves.Ready.{Ready}
-use Rattle.planner.specs.Answers.{settled_by, IsFound}
-use Rattle.planner.proofs.Begins.{passed, failed}
+use Rattle.planner.specs.Answers.{settled_by}
+use Rattle.planner.proofs.Begins.{passed, served, refused_by}
 
 module _ {S R : Type 0} (s : Ghosts S) (q : rules.Ghosts R) (r : Repertoire S) (x : Standing S R) (trails : List (Trail S)) where
-  -- ---- refused
+  pub step_refused : (why : Refusal) → Err why ≡ checked (first_failing (call_checks s r x trails)) → (o : Result Step Refusal) → IsErrAnd o (λ y. y ≡ why) → step s q r x trails ≡ record { answer = o; standing = x; trails = trails }
+  unfolding step
+  step_refused why e o is = refused_by _ why e o is (λ y. record { answer = y; standing = x; trails = trails }) _
 
-  module _ (why : Refusal) (e : Err why ≡ checked (first_failing (call_checks s r x trails))) where
-    fails : first_failing (call_checks s r x trails) ≡ Some why
-    fails = failed _ why e
-
-    pub step_refused : (o : Result Step Refusal) → o ≡ Err why → step s q r x trails ≡ record { answer = o; standing = x; trails = trails }
-    unfolding step
-    step_refused o is =
-        let told : Result Step Refusal → After Step S R = λ y. record { answer = y; standing = x; trails = trails } in
-        ap (λ f. unless_refused f (refused x trails) (step_by s r x trails (ahead s q r x trails))) fails ∙ ap told (sym is)
-
-    pub run_refused : (budget : ℕ) (o : Result Run Refusal) → o ≡ Err why → run s q r budget x trails ≡ record { answer = o; standing = x; trails = trails }
-    unfolding run
-    run_refused budget o is =
-        let told : Result Run Refusal → After Run S R = λ y. record { answer = y; standing = x; trails = trails } in
-        ap (λ f. unless_refused f (refused x trails) (run_by x (ran_from s r (prefers_by s q x) budget (table_of x trails)))) fails ∙ ap told (sym is)
-
-  -- ---- served
+  pub run_refused : (why : Refusal) → Err why ≡ checked (first_failing (call_checks s r x trails)) → (budget : ℕ) (o : Result Run Refusal) → IsErrAnd o (λ y. y ≡ why) → run s q r budget x trails ≡ record { answer = o; standing = x; trails = trails }
+  unfolding run
+  run_refused why e budget o is = refused_by _ why e o is (λ y. record { answer = y; standing = x; trails = trails }) _
 
   module _ {u : Unit {0}} (e : Ok u ≡ checked (first_failing (call_checks s r x trails))) where
-    passes : first_failing (call_checks s r x trails) ≡ None
-    passes = passed _ e
-
-    -- what the code may rely on
-    pub served : Served s r x trails
-    served = call_served s r x trails passes
-
-    -- where so many places are used: what the code found and made is the step
-    abbrev StepDone : ℕ → Type 0
-    StepDone held = (o : Outlook) → o ≡ outlook s r (prefers_by s q x) (tabled trails held) → (answer : Result Step Refusal) → answer ≡ step_answer o
-        → (used : ℕ) → used ≡ (moved_by s r (tabled trails held) o).used → (after : List (Trail S)) → after ≡ (moved_by s r (tabled trails held) o).trails
-        → step s q r x trails ≡ record { answer = answer; standing = with_used x used; trails = after }
-
-    step_here : StepDone x.used
+    -- where so many places are used: what the code found, and the table that it left, are the step
+    pub step_done : (held : ℕ) → held ≡ x.used → (o : Outlook) → o ≡ outlook s r (prefers_by s q x) (tabled trails held) → (answer : Result Step Refusal) → answer ≡ step_answer o
+        → (t : Table S) → t ≡ moved_by s r (tabled trails held) o → (after : List (Trail S)) → after ≡ t.trails → step s q r x trails ≡ record { answer = answer; standing = with_used x t.used; trails = after }
     unfolding step
-    step_here o is answer a used n after t =
-        let told : Result Step Refusal → ℕ → List (Trail S) → After Step S R = λ y m ts. record { answer = y; standing = with_used x m; trails = ts } in
-        ap (λ f. unless_refused f (refused x trails) (step_by s r x trails (ahead s q r x trails))) passes ∙ ap (step_by s r x trails) (sym is) ∙ sym (λ i. told (a i) (n i) (t i))
+    step_done held h o is answer a t moved after left =
+        let told : Result Step Refusal → Table S → List (Trail S) → After Step S R = λ y u ts. record { answer = y; standing = with_used x u.used; trails = ts } in
+        let made : Table S → Outlook → After Step S R = λ u y. told (step_answer y) (moved_by s r u y) (moved_by s r u y).trails in
+        served (first_failing (call_checks s r x trails)) e (refused x trails) (step_by s r x trails (ahead s q r x trails))
+        ∙ ap (λ u. made (tabled trails u) (outlook s r (prefers_by s q x) (tabled trails u))) (sym h) ∙ ap (made (tabled trails held)) (sym is)
+        ∙ ap (λ u. told (step_answer o) u u.trails) (sym moved) ∙ ap (λ y. told y t t.trails) (sym a) ∙ ap (told answer t) (sym left)
 
-    pub step_done : (held : ℕ) → held ≡ x.used → StepDone held
-    step_done held e = subst StepDone (sym e) step_here
-
-    abbrev RunDone : ℕ → Type 0
-    RunDone held = (budget : ℕ) (answer : Run) (used : ℕ) (after : List (Trail S))
-        → answer.expansions ≡ (ran_from s r (prefers_by s q x) budget (tabled trails held)).expansions → answer.ending ≡ (ran_from s r (prefers_by s q x) budget (tabled trails held)).ending
-        → used ≡ (ran_from s r (prefers_by s q x) budget (tabled trails held)).table.used → after ≡ (ran_from s r (prefers_by s q x) budget (tabled trails held)).table.trails
-        → run s q r budget x trails ≡ record { answer = Ok answer; standing = with_used x used; trails = after }
-
-    run_here : RunDone x.used
+    pub run_done : (held : ℕ) → held ≡ x.used → (budget : ℕ) (answer : Run) (t : Table S) → record { expansions = answer.expansions; ending = answer.ending; table = t } ≡ ran_from s r (prefers_by s q x) budget (tabled trails held)
+        → (after : List (Trail S)) → after ≡ t.trails → run s q r budget x trails ≡ record { answer = Ok answer; standing = with_used x t.used; trails = after }
     unfolding run
-    run_here budget answer used after e1 e2 n t =
-        let told : ℕ → Ending → ℕ → List (Trail S) → After Run S R = λ m y k ts. record { answer = Ok (record { expansions = m; ending = y }); standing = with_used x k; trails = ts } in
-        ap (λ f. unless_refused f (refused x trails) (run_by x (ran_from s r (prefers_by s q x) budget (table_of x trails)))) passes ∙ sym (λ i. told (e1 i) (e2 i) (n i) (t i))
-
-    pub run_done : (held : ℕ) → held ≡ x.used → RunDone held
-    run_done held e = subst RunDone (sym e) run_here
+    run_done held h budget answer t ran after left =
+        let told : List (Trail S) → After Run S R = λ ts. record { answer = Ok answer; standing = with_used x t.used; trails = ts } in
+        served (first_failing (call_checks s r x trails)) e (refused x trails) (run_by x (ran_from s r (prefers_by s q x) budget (table_of x trails)))
+        ∙ ap (λ u. run_by x (ran_from s r (prefers_by s q x) budget (tabled trails u))) (sym h) ∙ ap (run_by x) (sym ran) ∙ ap told (sym left)
 
 -- ---- settle
 
 module _ {S R : Type 0} (s : Ghosts S) (q : rules.Ghosts R) (r : Repertoire S) (x : Standing S R) (trails : List (Trail S)) where
-  pub settle_refused : (why : Refusal) → Err why ≡ checked (first_failing (call_checks s r x trails)) → (o : Result (Ready S) Refusal) → o ≡ Err why → settle s q r x trails ≡ settled_by x o
+  pub settle_refused : (why : Refusal) → Err why ≡ checked (first_failing (call_checks s r x trails)) → (o : Result ℕ Refusal) → IsErrAnd o (λ y. y ≡ why) → settle s q r x trails ≡ settled_by s x trails o
   unfolding settle
-  settle_refused why e o is = ap (λ f. unless_refused f (λ y. Err (x, y)) (settle_by s x trails (ahead s q r x trails))) (failed _ why e) ∙ ap (settled_by x) (sym is)
+  settle_refused why e o is = refused_by _ why e o is (settled_by s x trails) _
 
-  module _ {u : Unit {0}} (e : Ok u ≡ checked (first_failing (call_checks s r x trails))) where
-    settle_is : settle s q r x trails ≡ settle_by s x trails (ahead s q r x trails)
-    unfolding settle
-    settle_is = ap (λ f. unless_refused f (λ y. Err (x, y)) (settle_by s x trails (ahead s q r x trails))) (passed _ e)
+  -- where so many places are used: by the outlook that the code found
+  pub settle_served : {u : Unit {0}} → Ok u ≡ checked (first_failing (call_checks s r x trails)) → (held : ℕ) → held ≡ x.used → (o : Outlook) → o ≡ outlook s r (prefers_by s q x) (tabled trails held)
+      → settle s q r x trails ≡ settle_by s x trails o
+  unfolding settle
+  settle_served e held h o is =
+      served (first_failing (call_checks s r x trails)) e (λ y. Err (x, y)) (settle_by s x trails (ahead s q r x trails))
+      ∙ ap (λ u. settle_by s x trails (outlook s r (prefers_by s q x) (tabled trails u))) (sym h) ∙ ap (settle_by s x trails) (sym is)
 
-    -- the outlook that the code found, where so many places are used
-    here : (held : ℕ) → held ≡ x.used → (o : Outlook) → o ≡ outlook s r (prefers_by s q x) (tabled trails held) → ahead s q r x trails ≡ o
-    here held h o is = ap (λ u. outlook s r (prefers_by s q x) (tabled trails u)) (sym h) ∙ sym is
-
-    pub not_settled : (held : ℕ) → held ≡ x.used → (o : Outlook) → o ≡ outlook s r (prefers_by s q x) (tabled trails held) → ((place : ℕ) → o ≡ AtGoal place → ⊥) → settle s q r x trails ≡ Err (x, NotSettled)
-    not_settled held h o is no-goal = settle_is ∙ ap (settle_by s x trails) (here held h o is) ∙ go o no-goal
-      where
-        go : (o : Outlook) → ((place : ℕ) → o ≡ AtGoal place → ⊥) → settle_by s x trails o ≡ Err (x, NotSettled)
-        go NoneOpen n = refl
-        go (AtGoal p) n = absurd (n p refl)
-        go (Cramped p) n = refl
-        go (Roomy p) n = refl
-
-    pub settles : (held : ℕ) → held ≡ x.used → (place : ℕ) → AtGoal place ≡ outlook s r (prefers_by s q x) (tabled trails held) → (cost : S) → cost ≡ (trail_at s trails place).cost
-        → (set : ℕ) → set ≡ held_set s.shape x.limits cost → settle s q r x trails ≡ Ok (record { standing = x; place = place; cost = cost; held = set })
-    settles held h place is cost c set e2 =
-        let told : S → ℕ → Result (Settled S R) (Standing S R × Refusal) = λ y m. Ok (record { standing = x; place = place; cost = y; held = m }) in
-        settle_is ∙ ap (settle_by s x trails) (here held h (AtGoal place) is) ∙ sym (λ i. told (c i) (held_set s.shape x.limits (c i))) ∙ ap (told cost) (sym e2)
-
--- a refusal finds nothing
-pub nothing_found : {S R : Type 0} (x : Standing S R) (o : Result (Ready S) Refusal) (why : Refusal) → o ≡ Err why → IsFound x o
-nothing_found x o why e = rw e tt
+-- nothing is settled where the best open trail is not at the goal
+pub not_settled : {S R : Type 0} (s : Ghosts S) (x : Standing S R) (trails : List (Trail S)) (o : Outlook) → ((place : ℕ) → o ≡ AtGoal place → ⊥) → settle_by s x trails o ≡ Err (x, NotSettled)
+not_settled s x trails NoneOpen away = refl
+not_settled s x trails (AtGoal place) away = absurd (away place refl)
+not_settled s x trails (Cramped place) away = refl
+not_settled s x trails (Roomy place) away = refl
 
 -- ---- route
 
 module _ {S R : Type 0} (s : Ghosts S) (r : Repertoire S) (p : Settled S R) (trails : List (Trail S)) (buffer : List ℕ) where
-  pub route_refused : (why : Refusal) → Err why ≡ checked (first_failing (call_checks s r p.standing trails)) → (o : Result ℕ Refusal) → o ≡ Err why → route s r p trails buffer ≡ record { answer = o; buffer = buffer }
+  pub route_refused : (why : Refusal) → Err why ≡ checked (first_failing (call_checks s r p.standing trails)) → (o : Result ℕ Refusal) → IsErrAnd o (λ y. y ≡ why) → route s r p trails buffer ≡ record { answer = o; buffer = buffer }
   unfolding route
-  route_refused why e o is =
-      let told : Result ℕ Refusal → Routed = λ y. record { answer = y; buffer = buffer } in
-      ap (λ f. unless_refused f (λ y. told (Err y)) (route_by (plan_path s p trails) buffer)) (failed _ why e) ∙ ap told (sym is)
+  route_refused why e o is = refused_by _ why e o is (λ y. record { answer = y; buffer = buffer }) _
 
   module _ {u : Unit {0}} (e : Ok u ≡ checked (first_failing (call_checks s r p.standing trails))) where
     route_is : route s r p trails buffer ≡ route_by (plan_path s p trails) buffer
     unfolding route
-    route_is = ap (λ f. unless_refused f (λ y. record { answer = Err y; buffer = buffer }) (route_by (plan_path s p trails) buffer)) (passed _ e)
+    route_is = served (first_failing (call_checks s r p.standing trails)) e _ _
 
     -- the parents of the used places are lower places
     pub lower_parents : (i : ℕ) → 0 < i → i < p.standing.used → (trail_at s trails i).parent < i

@@ -7,7 +7,7 @@ ghost use Rattle.planner.specs.Answers.{standing_in, PromiseOf};
 use super::Search;
 use checks::check_begin;
 use repertoire::{Refusal, Repertoire};
-use rule::Rule;
+use rule::{Preference, Rule};
 use scale::Scale;
 use trails::{Standing, State, Trail};
 
@@ -37,8 +37,7 @@ pub fn begin<S: Scale, R: Rule + Drop>(
             links: repertoire.links.len() as u16,
             places: trails.len() as u16,
             used: 1,
-            limits,
-            rule,
+            preference: Preference { limits, rule },
         },
     })
 }

@@ -1,11 +1,11 @@
 // The calls on what looks for a plan.
 ghost use Rattle.std.specs.Prelude.{◌≡◌};
+ghost use Rattle.scale.specs.Shapes.{held_set};
 ghost use Rattle.trails.specs.Calls as calls;
 ghost use Rattle.trails.specs.Repertoires.{held_by};
 ghost use Rattle.trails.specs.Steps.{step_answer};
 ghost use Rattle.planner.specs.Answers.{settled_in, settled_by, IsFound};
 
-use super::moves::Ready;
 use super::running::run_on;
 use super::stepping::advance;
 use super::{Plan, Search};
@@ -13,7 +13,7 @@ use checks::check_call;
 use repertoire::{Refusal, Repertoire};
 use rule::Rule;
 use scale::Scale;
-use table::outlook;
+use table::{TrailTable, outlook};
 use trails::{Outlook, Run, Settled, Step, Trail};
 
 // What a step answers for what lay ahead.
@@ -39,15 +39,10 @@ impl<S: Scale, R: Rule> Search<S, R> {
     {
         check_call(repertoire, &self.standing, trails)?;
         let used = usize::from(self.standing.used);
-        let step = advance(
-            repertoire,
-            &self.standing.rule,
-            self.standing.limits,
-            trails,
-            used,
-        );
-        self.standing.used = step.used as u16;
-        answer_of(step.outlook)
+        let mut table = TrailTable { trails, used };
+        let outlook = advance(repertoire, &self.standing.preference, &mut table);
+        self.standing.used = table.used as u16;
+        answer_of(outlook)
     }
 
     // Steps until something ends it, or until it has made as many expansions as the budget says.
@@ -61,43 +56,37 @@ impl<S: Scale, R: Rule> Search<S, R> {
     {
         check_call(repertoire, &self.standing, trails)?;
         let used = usize::from(self.standing.used);
-        let moves = run_on(
-            repertoire,
-            &self.standing.rule,
-            self.standing.limits,
-            trails,
-            used,
-            budget,
-        );
-        self.standing.used = moves.used as u16;
-        Ok(moves.run)
+        let mut table = TrailTable { trails, used };
+        let run = run_on(repertoire, &self.standing.preference, &mut table, budget);
+        self.standing.used = table.used as u16;
+        Ok(run)
     }
 
     // Replaces all limits.
     pub fn relimit(&mut self, limits: S)
         ensures { self.new.standing ≡ calls.relimit self.old.standing limits }
     {
-        self.standing.limits = limits;
+        self.standing.preference.limits = limits;
     }
 
-    // The plan that lies ready, if the best open trail is at the goal.
-    fn ready(&self, repertoire: Repertoire<'_, S>, trails: &[Trail<S>]) -> Result<Ready<S>, Refusal>
-        ensures value { calls.settle S.Scale R.Rule (held_by repertoire.entry) self.now.standing trails.now ≡ settled_by self.now.standing result }
-        ensures found { IsFound self.now.standing result }
+    // The place of the plan that lies ready, if the best open trail is at the goal.
+    fn ready(&self, repertoire: Repertoire<'_, S>, trails: &[Trail<S>]) -> Result<usize, Refusal>
+        ensures value { calls.settle S.Scale R.Rule (held_by repertoire.entry) self.now.standing trails.now ≡ settled_by S.Scale self.now.standing trails.now result }
+        ensures found { IsFound self.now.standing trails.now result }
     {
         check_call(repertoire, &self.standing, trails)?;
         let used = usize::from(self.standing.used);
-        let limits = self.standing.limits;
-        let ahead = outlook(repertoire, &self.standing.rule, limits, trails, used);
-        let Outlook::AtGoal(place) = ahead else {
-            return Err(Refusal::NotSettled);
-        };
-        let cost = trails[place].cost;
-        Ok(Ready {
-            place: place as u16,
-            cost,
-            held: cost.held(limits),
-        })
+        match outlook(repertoire, &self.standing.preference, trails, used) {
+            Outlook::AtGoal(place) => Ok(place),
+            _ => Err(Refusal::NotSettled),
+        }
+    }
+
+    // The held set of a cost under the limits in force.
+    fn held_set(&self, cost: S) -> u8
+        ensures { result ≡ held_set S.Scale.shape self.now.standing.preference.limits cost }
+    {
+        cost.held(self.standing.preference.limits)
     }
 
     // Turns into a plan if the best open trail is at the goal, and otherwise gives itself back unchanged.
@@ -110,14 +99,16 @@ impl<S: Scale, R: Rule> Search<S, R> {
     {
         match self.ready(repertoire, trails) {
             Err(why) => Err((self, why)),
-            Ok(found) => {
+            Ok(place) => {
+                let cost = trails[place].cost;
+                let held = self.held_set(cost);
                 let Search { standing } = self;
                 Ok(Plan {
                     settled: Settled {
                         standing,
-                        place: found.place,
-                        cost: found.cost,
-                        held: found.held,
+                        place: place as u16,
+                        cost,
+                        held,
                     },
                 })
             }

@@ -4,7 +4,6 @@
 
 mod beginning;
 mod calls;
-mod moves;
 mod plans;
 mod readers;
 mod running;

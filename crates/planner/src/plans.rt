@@ -17,7 +17,7 @@ impl<S: Scale, R> Plan<S, R> {
     {
         let Plan { settled } = self;
         let mut standing = settled.standing;
-        standing.limits = limits;
+        standing.preference.limits = limits;
         Search { standing }
     }
 

@@ -2,17 +2,17 @@
 ghost use Rattle.std.specs.Prelude.{◌≡◌, ◌≤◌, length};
 ghost use Rattle.rule.specs.Preferred.{preferred};
 ghost use Rattle.trails.specs.Repertoires.{held_by, link_count};
-ghost use Rattle.trails.specs.Tables.{tabled};
 ghost use Rattle.trails.specs.Steps as steps;
+ghost use Rattle.table.specs.Held.{held_in};
 ghost use Rattle.table.specs.Numbers.{most_numbers};
 ghost use Rattle.planner.specs.Endings.{ending_by};
 
-use super::moves::Moves;
 use super::stepping::advance;
 use repertoire::Repertoire;
-use rule::Rule;
+use rule::{Preference, Rule};
 use scale::Scale;
-use trails::{Ending, Outlook, Run, Trail};
+use table::TrailTable;
+use trails::{Ending, Outlook, Run};
 
 // How a run ends for what lies ahead, unless the best open trail can be expanded.
 fn ending_of(outlook: Outlook) -> Option<Ending>
@@ -29,36 +29,25 @@ fn ending_of(outlook: Outlook) -> Option<Ending>
 // Steps until something ends it, or until it has made as many expansions as the budget says.
 pub fn run_on<S: Scale, R: Rule>(
     repertoire: Repertoire<'_, S>,
-    rule: &R,
-    limits: S,
-    trails: &mut [Trail<S>],
-    used: usize,
+    preference: &Preference<S, R>,
+    table: &mut TrailTable<'_, S>,
     budget: u16,
-) -> Moves
-    requires fits { used ≤ length trails.old }
-    requires places { length trails.old ≤ most_numbers }
-    requires links { link_count (held_by repertoire) ≤ most_numbers }
-    ensures expansions { result.run.expansions ≡ (steps.ran_from S.Scale (held_by repertoire.entry) (preferred S.Scale (R.Rule.better rule.now) limits) budget (tabled trails.old used)).expansions }
-    ensures ending { result.run.ending ≡ (steps.ran_from S.Scale (held_by repertoire.entry) (preferred S.Scale (R.Rule.better rule.now) limits) budget (tabled trails.old used)).ending }
-    ensures row { trails.new ≡ (steps.ran_from S.Scale (held_by repertoire.entry) (preferred S.Scale (R.Rule.better rule.now) limits) budget (tabled trails.old used)).table.trails }
-    ensures count { result.used ≡ (steps.ran_from S.Scale (held_by repertoire.entry) (preferred S.Scale (R.Rule.better rule.now) limits) budget (tabled trails.old used)).table.used }
-    ensures within { result.used ≤ length trails.new }
+) -> Run
+    requires { link_count (held_by repertoire) ≤ most_numbers }
+    ensures ran { record { expansions = result.expansions; ending = result.ending; table = held_in table.new } ≡ steps.ran_from S.Scale (held_by repertoire.entry) (preferred S.Scale (R.Rule.better preference.now.rule) preference.now.limits) budget (held_in table.old) }
+    ensures long { length table.new.trails.now ≡ length table.old.trails.now }
+    ensures same { table.new.trails.ghost_name ≡ table.old.trails.ghost_name }
 {
-    let mut taken = used;
     for made in 0..budget {
-        let step = advance(repertoire, rule, limits, trails, taken);
-        taken = step.used;
-        if let Some(ending) = ending_of(step.outlook) {
-            let run = Run {
+        if let Some(ending) = ending_of(advance(repertoire, preference, table)) {
+            return Run {
                 expansions: made,
                 ending,
             };
-            return Moves { run, used: taken };
         }
     }
-    let run = Run {
+    Run {
         expansions: budget,
         ending: Ending::Spent,
-    };
-    Moves { run, used: taken }
+    }
 }

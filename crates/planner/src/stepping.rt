@@ -2,42 +2,31 @@
 ghost use Rattle.std.specs.Prelude.{◌≡◌, ◌≤◌, length};
 ghost use Rattle.rule.specs.Preferred.{preferred};
 ghost use Rattle.trails.specs.Repertoires.{held_by, link_count};
-ghost use Rattle.trails.specs.Tables.{tabled};
 ghost use Rattle.trails.specs.Steps as steps;
+ghost use Rattle.table.specs.Held.{held_in};
 ghost use Rattle.table.specs.Numbers.{most_numbers};
 
-use super::moves::Move;
 use repertoire::Repertoire;
-use rule::Rule;
+use rule::{Preference, Rule};
 use scale::Scale;
 use table::TrailTable;
-use trails::{Outlook, Trail};
+use trails::Outlook;
 
-// Expands the best open trail, unless none is open, it is at the goal or the places don't suffice.
+// Expands the best open trail, unless none is open, it is at the goal or the places don't suffice. Answers what lay ahead.
 pub fn advance<S: Scale, R: Rule>(
     repertoire: Repertoire<'_, S>,
-    rule: &R,
-    limits: S,
-    trails: &mut [Trail<S>],
-    used: usize,
-) -> Move
-    requires fits { used ≤ length trails.old }
-    requires places { length trails.old ≤ most_numbers }
-    requires links { link_count (held_by repertoire) ≤ most_numbers }
-    ensures seen { result.outlook ≡ steps.outlook S.Scale (held_by repertoire.entry) (preferred S.Scale (R.Rule.better rule.now) limits) (tabled trails.old used) }
-    ensures row { trails.new ≡ (steps.moved_by S.Scale (held_by repertoire.entry) (tabled trails.old used) result.outlook).trails }
-    ensures count { result.used ≡ (steps.moved_by S.Scale (held_by repertoire.entry) (tabled trails.old used) result.outlook).used }
-    ensures within { result.used ≤ length trails.new }
+    preference: &Preference<S, R>,
+    table: &mut TrailTable<'_, S>,
+) -> Outlook
+    requires { link_count (held_by repertoire) ≤ most_numbers }
+    ensures seen { result ≡ steps.outlook S.Scale (held_by repertoire.entry) (preferred S.Scale (R.Rule.better preference.now.rule) preference.now.limits) (held_in table.old) }
+    ensures moved { held_in table.new ≡ steps.moved_by S.Scale (held_by repertoire.entry) (held_in table.old) result }
+    ensures long { length table.new.trails.now ≡ length table.old.trails.now }
+    ensures same { table.new.trails.ghost_name ≡ table.old.trails.ghost_name }
 {
-    let mut table = TrailTable { trails, used };
-    let outlook = table.outlook(repertoire, rule, limits);
+    let outlook = table.outlook(repertoire, preference);
     if let Outlook::Roomy(place) = outlook {
         table.expand(repertoire, place);
     }
-    let used = table.used;
-    let TrailTable {
-        trails: _row,
-        used: _,
-    } = table;
-    Move { outlook, used }
+    outlook
 }

@@ -1,5 +1,7 @@
 -- The loop for the best open trail: one place more.
-use Rattle.std.proofs.Common.{◌≡◌, ℕ, zero, suc, ◌+◌, ◌<◌, Bool, true, false, cond, ◌&&◌, List, length, get_or, IfSome, Some, None, Option, sym, refl, ap, ◌∙◌, add-one, arith}
+use Rattle.std.proofs.Common.{◌≡◌, ℕ, zero, suc, ◌+◌, ◌<◌, ◌≤◌, Bool, true, false, cond, ◌&&◌, List, length, get_or, take, IfSome, Some, None, Option, sym, refl, ap, ap₂, ◌∙◌, add-one, arith}
+use Rattle.std.specs.Option.{MatchOption, IsSomeAnd}
+use Rattle.std.proofs.lemmas.List.{get_or-take, length-take-le}
 use Rattle.std.proofs.lemmas.Bool.{cond_both}
 use Rattle.scale.specs.declared.scales.Scale.{Ghosts}
 use Rattle.trails.specs.declared.trails.Trail.{Trail}
@@ -9,35 +11,30 @@ use Rattle.trails.specs.Choosing.{goes_first, estimate_at, best_below, best}
 use Rattle.table.specs.Chosen.{place_of, better_by}
 use Rattle.table.proofs.Comparing.{read_at}
 
+-- one test behind another, or both at once
+both_tests : {X : Type 0} (a b : Bool) (x y : X) → cond a (cond b x y) y ≡ cond (a && b) x y
+both_tests true b x y = refl
+both_tests false b x y = refl
+
 -- a place below n is below the next number
 found_further : {S : Type 0} (n : ℕ) (o : Option (ℕ × S)) → IfSome (place_of o) (λ k. k < n) → IfSome (place_of o) (λ k. k < suc n)
 found_further n None h = h
 found_further n (Some chosen) h = omega arith
 
+-- the place out of the best one, by a closure that gives the first of a pair
+pub place_mapped : {S : Type 0} {Gives : ℕ × S → ℕ → Type 0} → ((x : ℕ × S) (k : ℕ) → Gives x k → k ≡ x.0) → (b : Option (ℕ × S)) (o : Option ℕ) → MatchOption b (o ≡ None) (λ x. IsSomeAnd o (Gives x)) → o ≡ place_of b
+place_mapped told None o h = h
+place_mapped told (Some x) None h = absurd h
+place_mapped told (Some x) (Some k) h = ap Some (told x k h)
+
 module _ {S : Type 0} (s : Ghosts S) (r : Repertoire S) (prefers : S → S → Bool) (trails : List (Trail S)) (used : ℕ) where
-  -- among no places there is none
-  pub best_none : None ≡ best_below s r prefers (tabled trails used) 0
+  -- one place more: the best so far, b, beside the trail t that was read at place i
+  pub best_more : (i : ℕ) (t : Trail S) → i < length trails → t ≡ get_or trails i t → (b : Option (ℕ × S)) → b ≡ best_below s r prefers (tabled trails used) i
+      → cond (is_open t.state) (better_by prefers i (estimate s r t) b) b ≡ best_below s r prefers (tabled trails used) (i + 1)
   unfolding best_below
-  best_none = refl
-
-  -- the best so far, b, beside the trail that was read at place i
-  module _ (i : ℕ) (t : Trail S) (lt : i < length trails) (read : t ≡ get_or trails i t) (b : Option (ℕ × S)) (so_far : b ≡ best_below s r prefers (tabled trails used) i) where
-    -- one place more, where x says whether the trail there is open
-    next : (x : Bool) → x ≡ is_open t.state → cond (x && goes_first prefers (estimate s r t) b) (Some (i, estimate s r t)) b ≡ best_below s r prefers (tabled trails used) (i + 1)
-    unfolding best_below
-    next x e =
-        ap (λ (y : Bool). cond (y && goes_first prefers (estimate s r t) b) (Some (i, estimate s r t)) b) e
-        ∙ ap (λ (o : Option (ℕ × S)). cond (is_open t.state && goes_first prefers (estimate s r t) o) (Some (i, estimate s r t)) o) so_far
-        ∙ ap (λ (y : Trail S). cond (is_open y.state && goes_first prefers (estimate s r y) (best_below s r prefers (tabled trails used) i)) (Some (i, estimate s r y)) (best_below s r prefers (tabled trails used) i)) (read_at s trails i t lt read)
-        ∙ ap (best_below s r prefers (tabled trails used)) (sym (add-one i))
-
-    -- it is open
-    pub best_open : true ≡ is_open t.state → (e : S) → e ≡ estimate s r t → (o : Option (ℕ × S)) → o ≡ better_by prefers i e b → o ≡ best_below s r prefers (tabled trails used) (i + 1)
-    best_open opened e its o step = step ∙ ap (λ (x : S). better_by prefers i x b) its ∙ next true opened
-
-    -- it is not
-    pub best_passed : false ≡ is_open t.state → b ≡ best_below s r prefers (tabled trails used) (i + 1)
-    best_passed shut = next false shut
+  best_more i t lt read b so_far =
+      let next : Trail S → Option (ℕ × S) → Option (ℕ × S) = λ x o. cond (is_open x.state && goes_first prefers (estimate s r x) o) (Some (i, estimate s r x)) o in
+      both_tests (is_open t.state) _ _ _ ∙ ap₂ next (read_at s trails i t lt read) so_far ∙ ap (best_below s r prefers (tabled trails used)) (sym (add-one i))
 
   -- the place of the best one is among those looked at
   best_is_below : (n : ℕ) → IfSome (place_of (best_below s r prefers (tabled trails used) n)) (λ k. k < n)
@@ -57,3 +54,14 @@ module _ {S : Type 0} (s : Ghosts S) (r : Repertoire S) (prefers : S → S → B
   pub best_within : IfSome (place_of (best s r prefers (tabled trails used))) (λ k. k < used)
   unfolding best
   best_within = best_is_below used
+
+  -- the used places alone have the same best one
+  front_below : (n : ℕ) → n ≤ used → best_below s r prefers (tabled (take used trails) (length (take used trails))) n ≡ best_below s r prefers (tabled trails used) n
+  unfolding best_below
+  front_below zero h = refl
+  front_below (suc n) h =
+      ap₂ (λ (t : Trail S) (o : Option (ℕ × S)). cond (is_open t.state && goes_first prefers (estimate s r t) o) (Some (n, estimate s r t)) o) (get_or-take used trails n _ h) (front_below n (omega arith))
+
+  pub best_front : used ≤ length trails → best s r prefers (tabled (take used trails) (length (take used trails))) ≡ best s r prefers (tabled trails used)
+  unfolding best
+  best_front fits = ap (best_below s r prefers (tabled (take used trails) (length (take used trails)))) (length-take-le used trails fits) ∙ front_below used (omega arith)

@@ -8,23 +8,22 @@ ghost use Rattle.table.specs.Chosen.{Ready};
 
 use super::choosing::best_open;
 use repertoire::{Repertoire, leaving};
-use rule::Rule;
+use rule::{Preference, Rule};
 use scale::Scale;
 use trails::{Outlook, Trail};
 
 // Whether a trail is open, and of the best open one whether it is at the goal and whether it has room to be expanded.
 pub fn outlook<S: Scale, R: Rule>(
     repertoire: Repertoire<'_, S>,
-    rule: &R,
-    limits: S,
+    preference: &Preference<S, R>,
     trails: &[Trail<S>],
     used: usize,
 ) -> Outlook
     requires { used ≤ length trails.now }
-    ensures value { result ≡ steps.outlook S.Scale (held_by repertoire.entry) (preferred S.Scale (R.Rule.better rule.now) limits) (tabled trails.now used) }
+    ensures value { result ≡ steps.outlook S.Scale (held_by repertoire.entry) (preferred S.Scale (R.Rule.better preference.now.rule) preference.now.limits) (tabled trails.now used) }
     ensures ready { Ready S.Scale (held_by repertoire.entry) (tabled trails.now used) result }
 {
-    let Some(place) = best_open(repertoire, rule, limits, trails, used) else {
+    let Some(place) = best_open(repertoire, preference, &trails[..used]) else {
         return Outlook::NoneOpen;
     };
     let t = trails[place];

@@ -16,10 +16,10 @@ pub fn try_trail<S: Scale>(trails: &mut [Trail<S>], used: usize, new: Trail<S>) 
     ensures grown { used ≤ result }
     ensures within { result ≤ used + 1 }
 {
-    if is_withstood(trails, used, new) {
+    if is_withstood(&trails[..used], new) {
         return used;
     }
-    drop_beaten(trails, used, new);
+    drop_beaten(&mut trails[..used], new);
     trails[used] = new;
     used + 1
 }

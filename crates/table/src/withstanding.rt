@@ -1,22 +1,15 @@
 // Whether a new trail is discarded.
-ghost use Rattle.std.specs.Prelude.{◌≡◌, ◌≤◌, length};
-ghost use Rattle.trails.specs.Tables.{tabled};
-ghost use Rattle.trails.specs.Expanding.{withstood};
+ghost use Rattle.std.specs.Prelude.{◌≡◌};
+ghost use Rattle.std.specs.List.{list_any};
+ghost use Rattle.trails.specs.Expanding.{withstands};
 
 use super::rivals::withstands;
 use scale::Scale;
 use trails::Trail;
 
 // Whether some used trail withstands the new one.
-pub fn is_withstood<S: Scale>(trails: &[Trail<S>], used: usize, new: Trail<S>) -> bool
-    requires { used ≤ length trails.now }
-    ensures { result ≡ withstood S.Scale new (tabled trails.now used) }
+pub fn is_withstood<S: Scale>(used: &[Trail<S>], new: Trail<S>) -> bool
+    ensures { result ≡ list_any (withstands S.Scale new) used.now }
 {
-    for i in 0..used {
-        let t = trails[i];
-        if withstands(new, t) {
-            return true;
-        }
-    }
-    false
+    used.iter().any(|trail| withstands(new, *trail))
 }

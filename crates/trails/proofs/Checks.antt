@@ -27,7 +27,7 @@ passing (check ∷ checks) e = go check.1 refl e (passing checks)
   where
     go : (x : Bool) → check.1 ≡ x → cond x (first_failing checks) (Some check.0) ≡ None → (first_failing checks ≡ None → Passing checks) → (check.1 ≡ true) × Passing checks
     go true t e rest = (t, rest e)
-    go false t e rest = let z : ◌≡◌ {A = ℕ} 0 1 = cc in absurd (omega arith)
+    go false t e rest = cc
 
 -- a list behind another: none fails where all of the first hold and none of the second fails
 pub none_fails_append : (xs ys : List (Refusal × Bool)) → Passing xs → first_failing ys ≡ None → first_failing (xs ++ ys) ≡ None

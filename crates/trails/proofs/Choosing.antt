@@ -3,7 +3,6 @@ use Rattle.std.proofs.Common.{◌≡◌, ℕ, zero, suc, ◌<◌, Bool, true, fa
 use Rattle.std.proofs.lemmas.Bool.{and_parts, both_ways, cases_Bool, cond_both}
 use Rattle.scale.specs.declared.scales.Scale.{Ghosts}
 use Rattle.scale.specs.Shapes.{Shaped}
-use Rattle.scale.proofs.Held.{holds_all}
 use Rattle.rule.specs.declared.rules.Rule as rules
 use Rattle.rule.specs.Soundness as soundness
 use Rattle.rule.proofs.Ordering.{orders}
@@ -26,7 +25,7 @@ pub record Chooses {S : Type 0} (s : Ghosts S) (prefers : S → S → Bool) : Ty
 -- preferred under any limits, by any rule that keeps its laws
 pub prefers_chooses : {S R : Type 0} (s : Ghosts S) → Fair s → Shaped s.no_worse s.shape → (q : rules.Ghosts R) → ((rule : R) → soundness.Sound (q.better rule)) → (x : Standing S R) → Chooses s (prefers_by s q x)
 prefers_chooses s laws shaped q sound x =
-    let o = orders s (q.better x.rule) x.limits laws (holds_all s.no_worse s.shape shaped) (sound x.rule) in
+    let o = orders s (q.better x.preference.rule) x.preference.limits laws shaped (sound x.preference.rule) in
     record { asymmetric = o.asymmetric; transitive = o.transitive; carries = λ a b c h k. o.carries c b a k h; no_worse = o.no_worse }
 
 module _ {S : Type 0} (s : Ghosts S) (r : Repertoire S) (prefers : S → S → Bool) (chooses : Chooses s prefers) (reflexive : (x : S) → s.no_worse x x ≡ true) (t : Table S) where

@@ -25,7 +25,7 @@ open_if Done e = absurd (both_ways false refl e)
 open_if Dropped e = absurd (both_ways false refl e)
 
 pub open_not_done : Open ≡ Done → ⊥
-open_not_done e = let z : ◌≡◌ {A = ℕ} 0 1 = cc in omega arith
+open_not_done e = cc
 
 -- a trail that is live is not dropped
 pub live_not_dropped : (state : State) → is_live state ≡ true → state ≡ Dropped → ⊥

@@ -33,9 +33,9 @@ use Rattle.trails.proofs.Histories.{new_sound, Kept, step_is, run_is, history_ke
 
 no_way_ahead : (o : Outlook) → step_answer o ≡ Ok answer.NoWay → o ≡ NoneOpen
 no_way_ahead NoneOpen e = refl
-no_way_ahead (AtGoal p) e = let z : ◌≡◌ {A = ℕ} 0 1 = cc in absurd (omega arith)
-no_way_ahead (Cramped p) e = let z : ◌≡◌ {A = ℕ} 0 1 = cc in absurd (omega arith)
-no_way_ahead (Roomy p) e = let z : ◌≡◌ {A = ℕ} 0 1 = cc in absurd (omega arith)
+no_way_ahead (AtGoal p) e = cc
+no_way_ahead (Cramped p) e = cc
+no_way_ahead (Roomy p) e = cc
 
 refused_ahead : (o : Outlook) → RefusesWith 23 (step_answer o) → (p : ℕ) × (o ≡ Cramped p)
 refused_ahead NoneOpen e = absurd e
@@ -139,11 +139,11 @@ module _ {S R : Type 0} (s : Ghosts S) (laws : Fair s) (q : rules.Ghosts R) (r :
       let ready = k.ready.0 in
       let is : p ≡ plan_at s x trails p.place = k.ready.1 in
       let cost : p.cost ≡ (trail_at s trails p.place).cost = ap (λ y. y.cost) is in
-      let held : p.held ≡ held_set s.shape x.limits (trail_at s trails p.place).cost = ap (λ y. y.held) is in
+      let held : p.held ≡ held_set s.shape x.preference.limits (trail_at s trails p.place).cost = ap (λ y. y.held) is in
       record {
         leads = goal_leads s laws r (prefers_by s q x) (chooses x) t whole p.place ready;
         costs = goal_costs s laws r (prefers_by s q x) (chooses x) t whole p.place ready ∙ sym cost;
-        holds = ap (held_set s.shape x.limits) cost ∙ sym held;
+        holds = ap (held_set s.shape x.preference.limits) cost ∙ sym held;
         none_preferred = λ ks chain. subst (λ c. prefers_by s q x (path_cost s r ks) c ≡ false) (sym cost) (goal_best s laws r (prefers_by s q x) (chooses x) t whole p.place ready ok.guided ks chain);
       }
 
@@ -182,7 +182,7 @@ module _ {S R : Type 0} (s : Ghosts S) (laws : Fair s) (shaped : Shaped s.no_wor
     promised = go (first_failing (begin_checks s r places)) refl
       where
         go : (o : Option Refusal) → first_failing (begin_checks s r places) ≡ o → (begun_by s r limits rule places o).answer ≡ Ok first → Promise s q r first (begun_by s r limits rule places o).trails
-        go (Some why) e a = let z : ◌≡◌ {A = ℕ} 0 1 = cc in absurd (omega arith)
+        go (Some why) e a = cc
         go None e a =
             let ok = begin_accepted s r places e in
             let is : new_standing r limits rule places ≡ first = cc in

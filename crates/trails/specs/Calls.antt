@@ -42,10 +42,10 @@ pub record Routed : Type 0 where
 
 -- the standing with another number of used places, and with other limits
 abbrev pub with_used : {S R : Type 0} → Standing S R → ℕ → Standing S R
-with_used x used = record { header = x.header; links = x.links; places = x.places; used = used; limits = x.limits; rule = x.rule }
+with_used x used = record { header = x.header; links = x.links; places = x.places; used = used; preference = x.preference }
 
 abbrev pub with_limits : {S R : Type 0} → Standing S R → S → Standing S R
-with_limits x limits = record { header = x.header; links = x.links; places = x.places; used = x.used; limits = limits; rule = x.rule }
+with_limits x limits = record { header = x.header; links = x.links; places = x.places; used = x.used; preference = record { limits = limits; rule = x.preference.rule } }
 
 -- a refusal changes nothing
 abbrev pub refused : {A S R : Type 0} → Standing S R → List (Trail S) → Refusal → After A S R
@@ -61,7 +61,7 @@ abbrev pub first_trail : {S : Type 0} → Ghosts S → Repertoire S → Trail S
 first_trail s r = record { motif = r.header.start; parent = 0; link = 0; cost = s.neutral; state = Open }
 
 abbrev pub new_standing : {S R : Type 0} → Repertoire S → S → R → List (Trail S) → Standing S R
-new_standing r limits rule trails = record { header = r.header; links = link_count r; places = length trails; used = 1; limits = limits; rule = rule }
+new_standing r limits rule trails = record { header = r.header; links = link_count r; places = length trails; used = 1; preference = record { limits = limits; rule = rule } }
 
 module _ {S R : Type 0} (s : Ghosts S) (r : Repertoire S) where
   -- begin, from the first check that fails
@@ -91,7 +91,7 @@ module _ {S R : Type 0} where
 
   -- the plan whose trail is at the place
   abbrev pub plan_at : Ghosts S → Standing S R → List (Trail S) → ℕ → Settled S R
-  plan_at s x trails place = record { standing = x; place = place; cost = (trail_at s trails place).cost; held = held_set s.shape x.limits (trail_at s trails place).cost }
+  plan_at s x trails place = record { standing = x; place = place; cost = (trail_at s trails place).cost; held = held_set s.shape x.preference.limits (trail_at s trails place).cost }
 
   abbrev pub settle_by : Ghosts S → Standing S R → List (Trail S) → Outlook → Result (Settled S R) (Standing S R × Refusal)
   settle_by s x trails NoneOpen = Err (x, NotSettled)
@@ -101,7 +101,7 @@ module _ {S R : Type 0} where
 
 -- which of two costs is preferred under the limits and by the rule in force
 abbrev pub prefers_by : {S R : Type 0} → Ghosts S → rules.Ghosts R → Standing S R → S → S → Bool
-prefers_by s q x = preferred s (q.better x.rule) x.limits
+prefers_by s q x = preferred s (q.better x.preference.rule) x.preference.limits
 
 module _ {S R : Type 0} (s : Ghosts S) (q : rules.Ghosts R) (r : Repertoire S) where
   -- what lies ahead at a standing

@@ -68,7 +68,7 @@ module _ {S R : Type 0} (s : Ghosts S) (q : rules.Ghosts R) (r : Repertoire S) w
   pub record Best (p : Settled S R) (trails : List (Trail S)) : Type 0 where
     pub leads : IsChain s r (plan_path s p trails)
     pub costs : path_cost s r (plan_path s p trails) ≡ p.cost
-    pub holds : held_set s.shape p.standing.limits p.cost ≡ p.held
+    pub holds : held_set s.shape p.standing.preference.limits p.cost ≡ p.held
     pub none_preferred : (ks : List ℕ) → IsChain s r ks → prefers_by s q p.standing (path_cost s r ks) p.cost ≡ false
 
   -- no step and no run answers "no way" while there is a path from start to goal

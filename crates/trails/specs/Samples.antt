@@ -50,7 +50,7 @@ new_table s unused = trail 0 0 0 s.neutral Open ∷ replicate unused (left_over 
 
 -- a standing of what was begun with this repertoire and so many places
 abbrev pub standing : {S R : Type 0} → Repertoire S → R → (places used : ℕ) → S → Standing S R
-standing r rule places used limits = record { header = r.header; links = link_count r; places = places; used = used; limits = limits; rule = rule }
+standing r rule places used limits = record { header = r.header; links = link_count r; places = places; used = used; preference = record { limits = limits; rule = rule } }
 
 abbrev pub plan : {S R : Type 0} → Standing S R → (place : ℕ) → S → (held : ℕ) → Settled S R
 plan x place cost held = record { standing = x; place = place; cost = cost; held = held }

@@ -13,20 +13,14 @@ impl State {
     pub fn is_open(self) -> bool
         ensures { result ≡ is_open self }
     {
-        match self {
-            State::Open => true,
-            State::Done | State::Dropped => false,
-        }
+        matches!(self, State::Open)
     }
 
     // Whether a trail in this state is compared with new ones.
     pub fn is_live(self) -> bool
         ensures { result ≡ is_live self }
     {
-        match self {
-            State::Open | State::Done => true,
-            State::Dropped => false,
-        }
+        matches!(self, State::Open | State::Done)
     }
 }
 

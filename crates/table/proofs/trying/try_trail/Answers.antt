@@ -2,16 +2,8 @@ use Rattle.std.proofs.Common.{arith}
 use Rattle.table.proofs.Tries.{tried_discarded, tried_added}
 use Rattle.table.proofs.trying.try_trail.Goals as goal
 
-pub returns-then-is_withstood : goal.returns-then-is_withstood
-returns-then-is_withstood g c = record {
-  value = tried_discarded g.S.Scale _ _ _ c.if-is_withstood.ensures;
-  grown = omega arith;
-  within = omega arith;
-}
+pub returns-then-is_withstood-clause-value : goal.returns-then-is_withstood-clause-value
+returns-then-is_withstood-clause-value g c = tried_discarded g.S.Scale _ _ _ (omega arith) c.if-is_withstood.ensures
 
-pub returns : goal.returns
-returns g c = record {
-  value = tried_added g.S.Scale _ _ _ c.if-is_withstood.ensures _ c.drop_beaten.ensures;
-  grown = omega arith;
-  within = omega arith;
-}
+pub returns-clause-value : goal.returns-clause-value
+returns-clause-value g c = tried_added g.S.Scale _ _ _ (omega arith) c.if-is_withstood.ensures _ c.drop_beaten.ensures

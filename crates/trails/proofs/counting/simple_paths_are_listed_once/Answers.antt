@@ -1,6 +1,5 @@
-use Rattle.std.proofs.Common.{refl}
 use Rattle.trails.proofs.Listing.{enumerated}
 use Rattle.trails.proofs.counting.simple_paths_are_listed_once.Goals as goal
 
-pub returns : goal.returns
-returns g c = record { value = refl; listed = enumerated g.S.Scale }
+pub returns-clause-listed : goal.returns-clause-listed
+returns-clause-listed g c = enumerated g.S.Scale

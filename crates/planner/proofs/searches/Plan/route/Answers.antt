@@ -1,5 +1,4 @@
-use Rattle.std.proofs.Common.{Err, ap, ◌∙◌, arith}
-use Rattle.std.proofs.lemmas.Result.{err_from_is_err_and}
+use Rattle.std.proofs.Common.{arith}
 use Rattle.trails.specs.Repertoires.{held_by}
 use Rattle.trails.proofs.Checks.{call_served}
 use Rattle.planner.proofs.Begins.{passed}
@@ -8,8 +7,7 @@ use Rattle.planner.proofs.searches.Plan.route.Goals as goal
 
 pub returns-in_err-check_call : goal.returns-in_err-check_call
 returns-in_err-check_call g c =
-    let p = err_from_is_err_and c.from_residual.result c.from_residual.ensures.1 in
-    route_refused g.S.Scale (held_by c.args.repertoire) c.args.self.now.settled c.args.trails.now c.args.links.now _ c.in_err-check_call.ensures c.from_residual.result (p.1 ∙ ap Err p.2)
+    route_refused g.S.Scale (held_by c.args.repertoire) c.args.self.now.settled c.args.trails.now c.args.links.now _ c.in_err-check_call.ensures _ c.from_residual.ensures.1
 
 pub route_length-count-requires : goal.route_length-count-requires
 route_length-count-requires g c =

@@ -1,29 +1,13 @@
-use Rattle.std.proofs.Common.{◌^◌, ◌<◌, Err, ap, ◌∙◌, arith, rules}
-use Rattle.std.proofs.lemmas.Result.{err_from_is_err_and}
+use Rattle.std.proofs.Common.{rules}
 use Rattle.trails.specs.Repertoires.{held_by}
-use Rattle.planner.proofs.Serves.{step_refused, served, step_done}
+use Rattle.planner.proofs.Serves.{step_refused, step_done}
 use Rattle.planner.proofs.searches.Search.step.Goals as goal
 
 pub returns-in_err-check_call : goal.returns-in_err-check_call
 returns-in_err-check_call g c =
-    let p = err_from_is_err_and c.from_residual.result c.from_residual.ensures.1 in
-    step_refused g.S.Scale g.R.Rule (held_by c.args.repertoire) c.args.self.now.standing c.args.trails.now _ c.in_err-check_call.ensures c.from_residual.result (p.1 ∙ ap Err p.2)
-
-pub advance-step-requires : goal.advance-step-requires
-advance-step-requires g c =
-    let v = served g.S.Scale g.R.Rule (held_by c.args.repertoire) c.args.self.now.standing c.args.trails.now c.in_ok-check_call.ensures in
-    let few = c.args.self.now.few in
-    record { fits = omega (arith, v.within, c.from-used.ensures); places = omega (arith, v.places_is); links = omega (arith, v.few_links) }
-
-pub overflow_cast-self : goal.overflow_cast-self
-overflow_cast-self g c =
-    let v = served g.S.Scale g.R.Rule (held_by c.args.repertoire) c.args.self.now.standing c.args.trails.now c.in_ok-check_call.ensures in
-    let few = c.args.self.now.few in
-    let small : c.advance-step.result.used < 2 ^ 16 = omega (arith, c.advance-step.ensures.within, c.advance-step.auto.trails, v.places_is) in
-    search rules
+    step_refused g.S.Scale g.R.Rule (held_by c.args.repertoire) c.args.self.now.standing c.args.trails.now _ c.in_err-check_call.ensures _ c.from_residual.ensures.1
 
 pub returns : goal.returns
 returns g c =
-    let a = c.advance-step.ensures in
-    step_done g.S.Scale g.R.Rule (held_by c.args.repertoire) c.args.self.now.standing c.args.trails.now c.in_ok-check_call.ensures c.from-used.result c.from-used.ensures
-    c.advance-step.result.outlook a.seen c.answer_of.result c.answer_of.ensures c.advance-step.result.used a.count c.advance-step.new.trails a.row
+    step_done g.S.Scale g.R.Rule (held_by c.args.repertoire) c.args.self.now.standing c.args.trails.now c.in_ok-check_call.ensures _ c.from-used.ensures
+    _ c.advance-outlook.ensures.seen _ c.answer_of.ensures _ c.advance-outlook.ensures.moved _ (search rules)
