@@ -3,7 +3,6 @@
 #![tactic(auto)]
 
 ghost use Rattle.std.specs.Prelude.{◌≡◌, true, length, take, Some, None, Ok, Err, IfOk, vec_len};
-ghost use Rattle.repertoire.specs.Numbers.{refusal_number};
 
 use account::{Account, GUIDE_ROWS, LINK_ROWS, report};
 use repertoire::{Header, Link, Refusal, Repertoire};
@@ -97,13 +96,6 @@ fn is_written_again(
         return false;
     };
     length == sheet.len() && buffer.starts_with(sheet)
-}
-
-// The refusal of a buffer that is too short, and nothing where it is written.
-fn refusal_number(answer: Result<usize, Refusal>) -> Option<u8>
-    ensures { elim answer [ Ok n ↦ result ≡ None | Err e ↦ result ≡ Some (refusal_number e) ] }
-{
-    answer.err().map(Refusal::number)
 }
 
 // So many links and guides, all alike.
@@ -223,7 +215,7 @@ fn try_buffer<R: Alloc + Print>(rt: &R, length: usize) -> io::Result<()> {
         guides: &[],
     };
     let answer = encode(shortest, weave_cost(0, 0, 0), buffer.as_mut_slice());
-    let refused = refusal_number(answer);
+    let refused = answer.err().map(Refusal::number);
     println!(rt; "The shortest sheet in {length} bytes, refused {refused:?}")?;
     let text = from_utf8(buffer.as_slice()).unwrap_or("no text");
     println!(rt; "{text}")

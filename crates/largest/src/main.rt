@@ -4,7 +4,7 @@
 
 use planner::begin;
 use repertoire::{Header, Repertoire};
-use rule::Ladder;
+use rule::{Ladder, Preference};
 use scale::weave_cost;
 use std::io;
 
@@ -49,7 +49,11 @@ fn main(rt: HostRuntime) -> io::Result<()> {
         links: links.as_slice(),
         guides: guides.as_slice(),
     };
-    let Ok(mut looking) = begin(repertoire, weave_cost(9, 7, 90), Ladder, row.as_mut_slice()) else {
+    let preference = Preference {
+        limits: weave_cost(9, 7, 90),
+        rule: Ladder,
+    };
+    let Ok(mut looking) = begin(repertoire, preference, row.as_mut_slice()) else {
         return println!(rt; "Begin: refused");
     };
     for (budget, room, (float, yarns, picks)) in ROUNDS {

@@ -11,16 +11,15 @@ use rule::{Preference, Rule};
 use scale::Scale;
 use trails::{Standing, State, Trail};
 
-// Begins with a repertoire, limits, a rule and a lent table, whose first place gets the trail at the start. Of what it
+// Begins with a repertoire, a preference and a lent table, whose first place gets the trail at the start. Of what it
 // makes, and of any calls on it in any order, all is promised that `PromiseOf` says: plans are the best there are, nothing
 // is forgotten, and the work is bounded.
 pub fn begin<S: Scale, R: Rule + Drop>(
     repertoire: Repertoire<'_, S>,
-    limits: S,
-    rule: R,
+    preference: Preference<S, R>,
     trails: &mut [Trail<S>],
 ) -> Result<Search<S, R>, Refusal>
-    ensures value { calls.begin S.Scale (held_by repertoire.entry) limits rule trails.old ≡ record { answer = standing_in result; trails = trails.new } }
+    ensures value { calls.begin S.Scale (held_by repertoire.entry) preference.limits preference.rule trails.old ≡ record { answer = standing_in result; trails = trails.new } }
     ensures promise { PromiseOf S.Scale R.Rule (held_by repertoire.entry) result trails.new }
 {
     check_begin(repertoire, trails)?;
@@ -37,7 +36,7 @@ pub fn begin<S: Scale, R: Rule + Drop>(
             links: repertoire.links.len() as u16,
             places: trails.len() as u16,
             used: 1,
-            preference: Preference { limits, rule },
+            preference,
         },
     })
 }

@@ -33,7 +33,8 @@ pub fn run_on<S: Scale, R: Rule>(
     table: &mut TrailTable<'_, S>,
     budget: u16,
 ) -> Run
-    requires { link_count (held_by repertoire) ≤ most_numbers }
+    requires places { length table.old.trails.now ≤ most_numbers }
+    requires links { link_count (held_by repertoire) ≤ most_numbers }
     ensures ran { record { expansions = result.expansions; ending = result.ending; table = held_in table.new } ≡ steps.ran_from S.Scale (held_by repertoire.entry) (preferred S.Scale (R.Rule.better preference.now.rule) preference.now.limits) budget (held_in table.old) }
     ensures long { length table.new.trails.now ≡ length table.old.trails.now }
     ensures same { table.new.trails.ghost_name ≡ table.old.trails.ghost_name }

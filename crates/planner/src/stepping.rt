@@ -18,7 +18,8 @@ pub fn advance<S: Scale, R: Rule>(
     preference: &Preference<S, R>,
     table: &mut TrailTable<'_, S>,
 ) -> Outlook
-    requires { link_count (held_by repertoire) ≤ most_numbers }
+    requires places { length table.old.trails.now ≤ most_numbers }
+    requires links { link_count (held_by repertoire) ≤ most_numbers }
     ensures seen { result ≡ steps.outlook S.Scale (held_by repertoire.entry) (preferred S.Scale (R.Rule.better preference.now.rule) preference.now.limits) (held_in table.old) }
     ensures moved { held_in table.new ≡ steps.moved_by S.Scale (held_by repertoire.entry) (held_in table.old) result }
     ensures long { length table.new.trails.now ≡ length table.old.trails.now }

@@ -8,34 +8,32 @@ use super::outcomes::{Stop, Trip};
 use super::trips::{stop, trip};
 use planner::begin;
 use repertoire::{Refusal, Repertoire};
-use rule::Rule;
+use rule::{Preference, Rule};
 use scale::Scale;
 use trails::Trail;
 
 // Begins and runs.
 pub fn begun_stop<S: Scale, R: Rule + Drop>(
     repertoire: Repertoire<'_, S>,
-    limits: S,
-    rule: R,
+    preference: Preference<S, R>,
     trails: &mut [Trail<S>],
     budget: u16,
 ) -> Result<Stop, Refusal>
-    ensures { begun_stop S.Scale R.Rule (held_by repertoire.entry) budget (calls.begin S.Scale (held_by repertoire.entry) limits rule trails.old) ≡ result }
+    ensures { begun_stop S.Scale R.Rule (held_by repertoire.entry) budget (calls.begin S.Scale (held_by repertoire.entry) preference.limits preference.rule trails.old) ≡ result }
 {
-    let mut looking = begin(repertoire, limits, rule, trails)?;
+    let mut looking = begin(repertoire, preference, trails)?;
     stop(&mut looking, repertoire, trails, budget)
 }
 
 // Begins, runs, settles, and asks the way.
 pub fn begun_trip<S: Scale, R: Rule + Drop>(
     repertoire: Repertoire<'_, S>,
-    limits: S,
-    rule: R,
+    preference: Preference<S, R>,
     trails: &mut [Trail<S>],
     budget: u16,
 ) -> Result<Trip<S, R>, Refusal>
-    ensures { TellsBegunTrip S.Scale R.Rule (held_by repertoire.entry) budget (calls.begin S.Scale (held_by repertoire.entry) limits rule trails.old) trails.new result }
+    ensures { TellsBegunTrip S.Scale R.Rule (held_by repertoire.entry) budget (calls.begin S.Scale (held_by repertoire.entry) preference.limits preference.rule trails.old) trails.new result }
 {
-    let looking = begin(repertoire, limits, rule, trails)?;
+    let looking = begin(repertoire, preference, trails)?;
     trip(looking, repertoire, trails, budget)
 }

@@ -1,13 +1,16 @@
 // Runs the samples by the calls of the planner, and prints what comes of each.
 #![tactic(auto)]
 
+ghost use Rattle.std.specs.Prelude.{◌≡◌};
+ghost use Rattle.scale.specs.Weave.{woven};
+
 use anyhow::Result;
 use begun::{begun_stop, begun_trip};
 use outcomes::Answer;
 use planner::begin;
 use repertoire::{Header, Link, Repertoire};
 use rows::{change_links, sheet_links, unused_place};
-use rule::{Count, Ladder};
+use rule::{Count, Ladder, Preference};
 use scale::{Grade, HarnessCost, WeaveCost, harness_cost, weave_cost};
 use trails::{Step, Trail};
 use trips::{refused, stop, trip};
@@ -51,41 +54,21 @@ const APART: Header = Header {
     goal: 1,
 };
 
-fn main(rt: HostRuntime) -> Result<()> {
-    let limits = weave_cost(5, 3, 40);
-    let none = weave_cost(0, 0, 0);
-    let links: &[Link<WeaveCost>] = &sheet_links();
-    let guides: &[WeaveCost] = &[none; 3];
-    let high: &[WeaveCost] = &[limits; 3];
-    let hooks: &[Link<HarnessCost>] = &change_links();
-    let works: &[HarnessCost] = &[harness_cost(Grade::Tiny, 0); 3];
-    let one: &[WeaveCost] = &[none];
-    let two: &[WeaveCost] = &[none; 2];
-    let sheet = Repertoire {
-        header: SHEET,
-        links: links,
-        guides: guides,
-    };
-    let same = Repertoire {
-        header: SAME,
-        links: &[],
-        guides: one,
-    };
-    let apart = Repertoire {
-        header: APART,
-        links: &[],
-        guides: two,
-    };
-    let empty = Repertoire {
-        header: EMPTY,
-        links: &[],
-        guides: &[],
-    };
+// The limits of the sample sheet, and the ladder.
+fn sheet_preference() -> Preference<WeaveCost, Ladder>
+    ensures { result.limits ≡ woven 5 3 40 }
+{
+    Preference {
+        limits: weave_cost(5, 3, 40),
+        rule: Ladder,
+    }
+}
+
+// The sample sheet: a plan and its route, and again under another limit; then a table that is too small.
+fn plans_of_the_sheet(rt: &impl Print, sheet: Repertoire<'_, WeaveCost>) -> Result<()> {
     let trails: &mut [Trail<WeaveCost>] = &mut [unused_place(); 8];
-    let seven: &mut [Trail<WeaveCost>] = &mut [unused_place(); 7];
     let four: &mut [Trail<WeaveCost>] = &mut [unused_place(); 4];
-    let table: &mut [Trail<HarnessCost>] = &mut [unused_place(); 8];
-    let first = begun_trip(sheet, limits, Ladder, trails, MOST)?;
+    let first = begun_trip(sheet, sheet_preference(), trails, MOST)?;
     println!(rt;
         "The sample sheet in 8 places\n  {}\n  {}",
         first.stop, first.way
@@ -98,10 +81,16 @@ fn main(rt: HostRuntime) -> Result<()> {
         "Reopened with float limit 6\n  {}\n  {}",
         second.stop, second.way
     )?;
-    let full = begun_stop(sheet, limits, Ladder, four, MOST)?;
+    let full = begun_stop(sheet, sheet_preference(), four, MOST)?;
     println!(rt; "The sample sheet in 4 places\n  {full}")?;
+    Ok(())
+}
+
+// The sample sheet, step by step until there is nothing to expand.
+fn steps_of_the_sheet(rt: &impl Print, sheet: Repertoire<'_, WeaveCost>) -> Result<()> {
+    let trails: &mut [Trail<WeaveCost>] = &mut [unused_place(); 8];
     println!(rt; "The sample sheet step by step")?;
-    let mut looking = begin(sheet, limits, Ladder, trails)?;
+    let mut looking = begin(sheet, sheet_preference(), trails)?;
     for _ in 0..10 {
         let step = looking.step(sheet, trails)?;
         println!(rt; "  {}", Answer(step))?;
@@ -110,54 +99,111 @@ fn main(rt: HostRuntime) -> Result<()> {
             Step::NoWay | Step::Plan => break,
         }
     }
+    Ok(())
+}
+
+// A change of harness, by the other rule.
+fn plan_of_a_change(rt: &impl Print) -> Result<()> {
+    let hooks: &[Link<HarnessCost>] = &change_links();
+    let works: &[HarnessCost] = &[harness_cost(Grade::Tiny, 0); 3];
+    let table: &mut [Trail<HarnessCost>] = &mut [unused_place(); 8];
     let change = Repertoire {
         header: SHEET,
         links: hooks,
         guides: works,
     };
-    let third = begun_trip(change, harness_cost(Grade::Medium, 60), Count, table, MOST)?;
+    let preference = Preference {
+        limits: harness_cost(Grade::Medium, 60),
+        rule: Count,
+    };
+    let third = begun_trip(change, preference, table, MOST)?;
     println!(rt; "A change of harness\n  {}\n  {}", third.stop, third.way)?;
-    let fourth = begun_trip(same, limits, Ladder, trails, MOST)?;
+    Ok(())
+}
+
+// One motif, and two without a link, with budgets that suffice and that don't.
+fn smallest_plans(rt: &impl Print) -> Result<()> {
+    let none = weave_cost(0, 0, 0);
+    let one: &[WeaveCost] = &[none];
+    let two: &[WeaveCost] = &[none; 2];
+    let trails: &mut [Trail<WeaveCost>] = &mut [unused_place(); 8];
+    let same = Repertoire {
+        header: SAME,
+        links: &[],
+        guides: one,
+    };
+    let apart = Repertoire {
+        header: APART,
+        links: &[],
+        guides: two,
+    };
+    let fourth = begun_trip(same, sheet_preference(), trails, MOST)?;
     println!(rt; "One motif\n  {}\n  {}", fourth.stop, fourth.way)?;
-    let ended = begun_stop(apart, limits, Ladder, trails, MOST)?;
-    let by_one = begun_stop(apart, limits, Ladder, trails, 1)?;
-    let by_none = begun_stop(apart, limits, Ladder, trails, 0)?;
+    let ended = begun_stop(apart, sheet_preference(), trails, MOST)?;
+    let by_one = begun_stop(apart, sheet_preference(), trails, 1)?;
+    let by_none = begun_stop(apart, sheet_preference(), trails, 0)?;
     println!(rt; "Two motifs without a link\n  {ended}\n  {by_one}\n  {by_none}")?;
+    Ok(())
+}
+
+// What begin refuses.
+fn refused_beginnings(rt: &impl Print, sheet: Repertoire<'_, WeaveCost>) -> Result<()> {
+    let high: &[WeaveCost] = &[weave_cost(5, 3, 40); 3];
+    let trails: &mut [Trail<WeaveCost>] = &mut [unused_place(); 8];
+    let empty = Repertoire {
+        header: EMPTY,
+        links: &[],
+        guides: &[],
+    };
+    let overstated = Repertoire {
+        guides: high,
+        ..sheet
+    };
     println!(rt;
         "Begun with no place, no motif, a guide that overstates: refused {:?}, {:?}, {:?}",
-        refused(begin(sheet, limits, Ladder, &mut [])),
-        refused(begin(empty, limits, Ladder, trails)),
-        refused(begin(
-            Repertoire {
-                header: SHEET,
-                links: links,
-                guides: high
-            },
-            limits,
-            Ladder,
-            trails
-        )),
+        refused(begin(sheet, sheet_preference(), &mut [])),
+        refused(begin(empty, sheet_preference(), trails)),
+        refused(begin(overstated, sheet_preference(), trails)),
     )?;
-    let looking = begin(sheet, limits, Ladder, trails)?;
-    let Err(back) = looking.settle(sheet, trails) else {
+    Ok(())
+}
+
+// What the later calls refuse, and that they go on as if they had not been called.
+fn refused_calls(rt: &impl Print, sheet: Repertoire<'_, WeaveCost>) -> Result<()> {
+    let trails: &mut [Trail<WeaveCost>] = &mut [unused_place(); 8];
+    let seven: &mut [Trail<WeaveCost>] = &mut [unused_place(); 7];
+    let back = Repertoire {
+        header: BACK,
+        ..sheet
+    };
+    let looking = begin(sheet, sheet_preference(), trails)?;
+    let Err(unsettled) = looking.settle(sheet, trails) else {
         return Ok(());
     };
-    let (mut looking, early) = back;
+    let (mut looking, early) = unsettled;
     println!(rt;
         "Settled before any run, run on another table, with other ends: refused {}, {:?}, {:?}",
         early.number(),
         refused(looking.run(sheet, seven, MOST)),
-        refused(looking.run(
-            Repertoire {
-                header: BACK,
-                links: links,
-                guides: guides
-            },
-            trails,
-            MOST
-        )),
+        refused(looking.run(back, trails, MOST)),
     )?;
     let then = stop(&mut looking, sheet, trails, MOST)?;
     println!(rt; "Run after these refusals\n  {then}")?;
     Ok(())
+}
+
+fn main(rt: HostRuntime) -> Result<()> {
+    let links: &[Link<WeaveCost>] = &sheet_links();
+    let guides: &[WeaveCost] = &[weave_cost(0, 0, 0); 3];
+    let sheet = Repertoire {
+        header: SHEET,
+        links,
+        guides,
+    };
+    plans_of_the_sheet(&rt, sheet)?;
+    steps_of_the_sheet(&rt, sheet)?;
+    plan_of_a_change(&rt)?;
+    smallest_plans(&rt)?;
+    refused_beginnings(&rt, sheet)?;
+    refused_calls(&rt, sheet)
 }

@@ -35,13 +35,9 @@ pub fn settled<S: Scale, R: Rule + Drop>(
 ) -> Result<Plan<S, R>, Refusal>
     ensures { plan_in (calls.settle S.Scale R.Rule (held_by repertoire.entry) looking.standing trails.now) ≡ settled_of result }
 {
-    match looking.settle(repertoire, trails) {
-        Ok(plan) => Ok(plan),
-        Err(back) => {
-            let (_looking, refusal) = back;
-            Err(refusal)
-        }
-    }
+    looking
+        .settle(repertoire, trails)
+        .map_err(|(_looking, refusal)| refusal)
 }
 
 // What a plan costs and holds, and the way that it goes.
@@ -80,8 +76,5 @@ pub fn trip<S: Scale, R: Rule + Drop>(
 pub fn refused<T: Drop>(answer: Result<T, Refusal>) -> Option<u8>
     ensures { elim answer [ Ok x ↦ result ≡ None | Err why ↦ result ≡ Some (refusal_number why) ] }
 {
-    match answer {
-        Ok(_) => None,
-        Err(refusal) => Some(refusal.number()),
-    }
+    answer.err().map(Refusal::number)
 }

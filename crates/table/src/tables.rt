@@ -18,13 +18,12 @@ use scale::Scale;
 use trails::{Outlook, Trail};
 
 // The row belongs to whoever lends it, who knows what it holds once the table is let go. No more places are used than there
-// are, and the numbers in a trail reach each.
+// are.
 #[derive(Drop)]
 pub struct TrailTable<'a, S> {
     pub trails: &'a mut [Trail<S>],
     pub used: usize,
     ghost fits: { used ≤ length trails.now },
-    ghost few: { length trails.now ≤ most_numbers },
 }
 
 impl<'a, S: Scale> TrailTable<'a, S> {
@@ -58,6 +57,7 @@ impl<'a, S: Scale> TrailTable<'a, S> {
     pub fn expand(&mut self, repertoire: Repertoire<'_, S>, place: usize)
         requires there { place < self.old.used }
         requires room { self.old.used + leaving_count (held_by repertoire) (trail_at S.Scale self.old.trails.now place).motif ≤ length self.old.trails.now }
+        requires places { length self.old.trails.now ≤ most_numbers }
         requires links { link_count (held_by repertoire) ≤ most_numbers }
         ensures value { held_in self.new ≡ expanded S.Scale (held_by repertoire.entry) place (held_in self.old) }
         ensures grown { self.old.used ≤ self.new.used }
