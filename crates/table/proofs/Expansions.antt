@@ -1,5 +1,5 @@
 -- The loop over the links that leave an expanded trail's motif: one link more, and the places that the links take.
-use Rattle.std.proofs.Common.{◌≡◌, ℕ, ◌+◌, ◌<◌, ◌≤◌, true, false, cond, List, length, get_or, set, take, count_by, sym, refl, ap, ◌∙◌, add-one, arith}
+use Rattle.std.proofs.Common.{◌≡◌, ℕ, ◌+◌, ◌<◌, ◌≤◌, true, false, cond, List, length, get_or, set, take, count_by, sym, ap, ◌∙◌, add-one, arith}
 use Rattle.std.proofs.lemmas.List.{get_or_read}
 use Rattle.std.proofs.lemmas.List.Sums.{count_by_more_yes, count_by_more_no, sum_by-take-le}
 use Rattle.std.proofs.lemmas.Bool.{cond-true, cond-false, eq-eqb, ne_eqb}
@@ -22,11 +22,6 @@ pub leaving_all : {S : Type 0} (s : Ghosts S) (r : Repertoire S) (trails : List 
     → (k : ℕ) → leaving_of r from.motif k ≤ leaving_count r (trail_at s trails place).motif
 leaving_all s r trails place from lt read k =
     let here = ap (λ t. leaving_count r t.motif) (read_at s trails place from lt read) in omega (arith, here, sum_by-take-le (λ x. cond (leaves from.motif x) 1 0) r.links k)
-
--- before the first link nothing has been tried
-pub leaving_none : {S : Type 0} (s : Ghosts S) (r : Repertoire S) (place : ℕ) (from : Trail S) (t : Table S) → t ≡ tried_below s r place from 0 t
-unfolding tried_below
-leaving_none s r place from t = refl
 
 -- ---- the link that was read under the number k, and a motif m
 

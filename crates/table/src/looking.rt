@@ -26,11 +26,11 @@ pub fn outlook<S: Scale, R: Rule>(
     let Some(place) = best_open(repertoire, preference, &trails[..used]) else {
         return Outlook::NoneOpen;
     };
-    let t = trails[place];
-    if t.motif == repertoire.header.goal {
+    let trail = trails[place];
+    if trail.motif == repertoire.header.goal {
         return Outlook::AtGoal(place);
     }
-    if leaving(repertoire.links, t.motif) <= trails.len() - used {
+    if leaving(repertoire.links, trail.motif) <= trails.len() - used {
         Outlook::Roomy(place)
     } else {
         Outlook::Cramped(place)

@@ -1,12 +1,14 @@
-use Rattle.std.proofs.Common.{◌≡◌, ◌+◌, length, ◌∙◌, ap₂, arith, length-set}
+use Rattle.std.proofs.Common.{◌≡◌, ◌+◌, length, refl, ◌∙◌, ap₂, arith, length-set}
 use Rattle.trails.specs.Repertoires.{held_by}
 use Rattle.trails.specs.Tables.{tabled}
-use Rattle.table.proofs.Expansions.{leaving_all, leaving_none, leaving_more, leaving_same, tried_link, passed_link, expanded_is}
+use Rattle.trails.specs.Expanding.{tried_below}
+use Rattle.table.proofs.Expansions.{leaving_all, leaving_more, leaving_same, tried_link, passed_link, expanded_is}
 use Rattle.table.proofs.expanding.expand.Goals as goal
 use Rattle.table.proofs.expanding.expand.Goals.{then-link-from, else-link-from}
 
 pub loop-k-init : goal.loop-k-init
-loop-k-init g c = (leaving_none g.S.Scale _ _ _ _, omega arith, omega arith)
+unfolding tried_below
+loop-k-init g c = (refl, omega arith, omega arith)
 
 pub try_trail-n-requires : goal.try_trail-n-requires
 try_trail-n-requires g c =
