@@ -1,6 +1,6 @@
 // A run on a lent table, behind the checks.
 ghost use Rattle.std.specs.Prelude.{◌≡◌, ◌≤◌, length};
-ghost use Rattle.rule.specs.Preferred.{preferred};
+ghost use Rattle.rule.specs.Preferences.{preferred_by};
 ghost use Rattle.trails.specs.Repertoires.{held_by, link_count};
 ghost use Rattle.trails.specs.Steps as steps;
 ghost use Rattle.table.specs.Held.{held_in};
@@ -35,7 +35,7 @@ pub fn run_on<S: Scale, R: Rule>(
 ) -> Run
     requires places { length table.old.trails.now ≤ most_numbers }
     requires links { link_count (held_by repertoire) ≤ most_numbers }
-    ensures ran { record { expansions = result.expansions; ending = result.ending; table = held_in table.new } ≡ steps.ran_from S.Scale (held_by repertoire.entry) (preferred S.Scale (R.Rule.better preference.now.rule) preference.now.limits) budget (held_in table.old) }
+    ensures ran { record { expansions = result.expansions; ending = result.ending; table = held_in table.new } ≡ steps.ran_from S.Scale (held_by repertoire.entry) (preferred_by S.Scale R.Rule preference.now) budget (held_in table.old) }
     ensures long { length table.new.trails.now ≡ length table.old.trails.now }
     ensures same { table.new.trails.ghost_name ≡ table.old.trails.ghost_name }
 {

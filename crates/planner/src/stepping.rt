@@ -1,6 +1,6 @@
 // One step on a lent table, behind the checks.
 ghost use Rattle.std.specs.Prelude.{◌≡◌, ◌≤◌, length};
-ghost use Rattle.rule.specs.Preferred.{preferred};
+ghost use Rattle.rule.specs.Preferences.{preferred_by};
 ghost use Rattle.trails.specs.Repertoires.{held_by, link_count};
 ghost use Rattle.trails.specs.Steps as steps;
 ghost use Rattle.table.specs.Held.{held_in};
@@ -20,7 +20,7 @@ pub fn advance<S: Scale, R: Rule>(
 ) -> Outlook
     requires places { length table.old.trails.now ≤ most_numbers }
     requires links { link_count (held_by repertoire) ≤ most_numbers }
-    ensures seen { result ≡ steps.outlook S.Scale (held_by repertoire.entry) (preferred S.Scale (R.Rule.better preference.now.rule) preference.now.limits) (held_in table.old) }
+    ensures seen { result ≡ steps.outlook S.Scale (held_by repertoire.entry) (preferred_by S.Scale R.Rule preference.now) (held_in table.old) }
     ensures moved { held_in table.new ≡ steps.moved_by S.Scale (held_by repertoire.entry) (held_in table.old) result }
     ensures long { length table.new.trails.now ≡ length table.old.trails.now }
     ensures same { table.new.trails.ghost_name ≡ table.old.trails.ghost_name }

@@ -1,4 +1,5 @@
 pub mod Ladders
+pub mod Preferences
 pub mod Preferred
 pub mod RuleLaws
 pub mod Rules

@@ -1,6 +1,6 @@
 // Limits and a rule: what decides which of two costs is preferred.
 ghost use Rattle.std.specs.Prelude.{◌≡◌};
-ghost use Rattle.rule.specs.Preferred.{preferred, Orders};
+ghost use Rattle.rule.specs.Preferred.{Orders};
 
 use super::{Rule, Verdict};
 use scale::Scale;
@@ -12,9 +12,11 @@ pub struct Preference<S, R> {
 }
 
 impl<S: Scale, R: Rule> Preference<S, R> {
+    ghost use Rattle.rule.specs.Preferences.{preferred_by};
+
     // Whether the first cost is preferred to the second.
     pub fn prefers(&self, first: S, second: S) -> bool
-        ensures value { result ≡ preferred S.Scale (R.Rule.better self.now.rule) self.now.limits first second }
+        ensures value { result ≡ preferred_by S.Scale R.Rule self.now first second }
         ensures orders { Orders S.Scale (R.Rule.better self.now.rule) self.now.limits }
     {
         match self

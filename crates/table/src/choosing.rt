@@ -1,6 +1,6 @@
 // The best open trail.
 ghost use Rattle.std.specs.Prelude.{◌≡◌, ◌<◌, length, cond, IfSome};
-ghost use Rattle.rule.specs.Preferred.{preferred};
+ghost use Rattle.rule.specs.Preferences.{preferred_by};
 ghost use Rattle.trails.specs.Repertoires.{held_by};
 ghost use Rattle.trails.specs.Tables.{is_open, tabled, estimate};
 ghost use Rattle.trails.specs.Choosing.{best};
@@ -27,7 +27,7 @@ fn better_of<S: Scale, R: Rule>(
     place: usize,
     trail: Trail<S>,
 ) -> Option<(usize, S)>
-    ensures { result ≡ cond (is_open trail.state) (better_by (preferred S.Scale (R.Rule.better preference.now.rule) preference.now.limits) place (estimate S.Scale (held_by repertoire.entry) trail) best) best }
+    ensures { result ≡ cond (is_open trail.state) (better_by (preferred_by S.Scale R.Rule preference.now) place (estimate S.Scale (held_by repertoire.entry) trail) best) best }
 {
     if !trail.state.is_open() {
         return best;
@@ -46,7 +46,7 @@ pub fn best_open<S: Scale, R: Rule>(
     preference: &Preference<S, R>,
     used: &[Trail<S>],
 ) -> Option<usize>
-    ensures value { result ≡ place_of (best S.Scale (held_by repertoire.entry) (preferred S.Scale (R.Rule.better preference.now.rule) preference.now.limits) (tabled used.now (length used.now))) }
+    ensures value { result ≡ place_of (best S.Scale (held_by repertoire.entry) (preferred_by S.Scale R.Rule preference.now) (tabled used.now (length used.now))) }
     ensures within { IfSome result (λ k. k < length used.now) }
 {
     let mut best: Option<(usize, S)> = None;

@@ -1,6 +1,6 @@
 // What lies ahead of a table.
 ghost use Rattle.std.specs.Prelude.{◌≡◌, ◌≤◌, length};
-ghost use Rattle.rule.specs.Preferred.{preferred};
+ghost use Rattle.rule.specs.Preferences.{preferred_by};
 ghost use Rattle.trails.specs.Repertoires.{held_by};
 ghost use Rattle.trails.specs.Tables.{tabled};
 ghost use Rattle.trails.specs.Steps as steps;
@@ -20,7 +20,7 @@ pub fn outlook<S: Scale, R: Rule>(
     used: usize,
 ) -> Outlook
     requires { used ≤ length trails.now }
-    ensures value { result ≡ steps.outlook S.Scale (held_by repertoire.entry) (preferred S.Scale (R.Rule.better preference.now.rule) preference.now.limits) (tabled trails.now used) }
+    ensures value { result ≡ steps.outlook S.Scale (held_by repertoire.entry) (preferred_by S.Scale R.Rule preference.now) (tabled trails.now used) }
     ensures ready { Ready S.Scale (held_by repertoire.entry) (tabled trails.now used) result }
 {
     let Some(place) = best_open(repertoire, preference, &trails[..used]) else {

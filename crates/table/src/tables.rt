@@ -1,6 +1,6 @@
 // A table: a lent row of places of which the first are used.
 ghost use Rattle.std.specs.Prelude.{◌≡◌, ◌+◌, ◌<◌, ◌≤◌, length, IfSome};
-ghost use Rattle.rule.specs.Preferred.{preferred};
+ghost use Rattle.rule.specs.Preferences.{preferred_by};
 ghost use Rattle.trails.specs.Repertoires.{held_by, link_count, leaving_count};
 ghost use Rattle.trails.specs.Tables.{trail_at};
 ghost use Rattle.trails.specs.Choosing.{best};
@@ -35,7 +35,7 @@ impl<'a, S: Scale> TrailTable<'a, S> {
         repertoire: Repertoire<'_, S>,
         preference: &Preference<S, R>,
     ) -> Option<usize>
-        ensures value { result ≡ place_of (best S.Scale (held_by repertoire.entry) (preferred S.Scale (R.Rule.better preference.now.rule) preference.now.limits) (held_in self.now)) }
+        ensures value { result ≡ place_of (best S.Scale (held_by repertoire.entry) (preferred_by S.Scale R.Rule preference.now) (held_in self.now)) }
         ensures within { IfSome result (λ k. k < self.now.used) }
     {
         best_open(repertoire, preference, &self.trails[..self.used])
@@ -47,7 +47,7 @@ impl<'a, S: Scale> TrailTable<'a, S> {
         repertoire: Repertoire<'_, S>,
         preference: &Preference<S, R>,
     ) -> Outlook
-        ensures value { result ≡ steps.outlook S.Scale (held_by repertoire.entry) (preferred S.Scale (R.Rule.better preference.now.rule) preference.now.limits) (held_in self.now) }
+        ensures value { result ≡ steps.outlook S.Scale (held_by repertoire.entry) (preferred_by S.Scale R.Rule preference.now) (held_in self.now) }
         ensures ready { Ready S.Scale (held_by repertoire.entry) (held_in self.now) result }
     {
         outlook(repertoire, preference, self.trails, self.used)

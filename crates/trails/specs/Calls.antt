@@ -3,7 +3,7 @@ use Rattle.std.specs.Prelude.{ℕ, Bool, cond, List, ◌++◌, length, drop, Som
 use Rattle.scale.specs.declared.scales.Scale.{Ghosts}
 use Rattle.scale.specs.Shapes.{held_set}
 use Rattle.rule.specs.declared.rules.Rule as rules
-use Rattle.rule.specs.Preferred.{preferred}
+use Rattle.rule.specs.Preferences.{preferred_by}
 use Rattle.repertoire.specs.declared.refusals.Refusal.{Refusal}
 use Rattle.repertoire.specs.declared.refusals.Refusal.TheVariants.{NotSettled, RouteTooLong}
 use Rattle.trails.specs.declared.answers.Run.{Run}
@@ -101,7 +101,7 @@ module _ {S R : Type 0} where
 
 -- which of two costs is preferred under the limits and by the rule in force
 abbrev pub prefers_by : {S R : Type 0} → Ghosts S → rules.Ghosts R → Standing S R → S → S → Bool
-prefers_by s q x = preferred s (q.better x.preference.rule) x.preference.limits
+prefers_by s q x = preferred_by s q x.preference
 
 module _ {S R : Type 0} (s : Ghosts S) (q : rules.Ghosts R) (r : Repertoire S) where
   -- what lies ahead at a standing

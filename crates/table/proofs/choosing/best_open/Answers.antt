@@ -1,5 +1,5 @@
 use Rattle.std.proofs.Common.{◌≡◌, length, refl, ap, ◌∙◌, arith, rules}
-use Rattle.rule.specs.Preferred.{preferred}
+use Rattle.rule.specs.Preferences.{preferred_by}
 use Rattle.trails.specs.Repertoires.{held_by}
 use Rattle.trails.specs.Tables.{tabled}
 use Rattle.trails.specs.Choosing.{best_below, best}
@@ -17,7 +17,7 @@ loop-place-preserved g c = c.better_of-best.ensures ∙ best_more g.S.Scale _ _ 
 pub returns : goal.returns
 returns g c =
     let r = held_by c.args.repertoire in
-    let prefers = preferred g.S.Scale (g.R.Rule.better c.args.preference.now.rule) c.args.preference.now.limits in
+    let prefers = preferred_by g.S.Scale g.R.Rule c.args.preference.now in
     let used = c.args.used.now in
     let value : c.map.result ≡ place_of (best g.S.Scale r prefers (tabled used (length used))) =
     place_mapped (λ x k p. search rules) c.loop-place.best c.map.result c.map.ensures.cases ∙ ap place_of (best_is g.S.Scale r prefers used (length used) _ (omega arith) _ c.loop-place.invariant) in

@@ -1,6 +1,6 @@
 -- The best of the open trails so far.
 use Rattle.std.proofs.Common.{◌≡◌, length}
-use Rattle.rule.specs.Preferred.{preferred}
+use Rattle.rule.specs.Preferences.{preferred_by}
 use Rattle.trails.specs.Repertoires.{held_by}
 use Rattle.trails.specs.Tables.{tabled}
 use Rattle.trails.specs.Choosing.{best_below}
@@ -8,4 +8,4 @@ use Rattle.table.proofs.choosing.best_open.Given as goal
 
 abbrev pub invariant-loop-place : goal.invariant-loop-place
 invariant-loop-place g l =
-    l.best ≡ best_below g.S.Scale (held_by l.repertoire) (preferred g.S.Scale (g.R.Rule.better l.preference.rule) l.preference.limits) (tabled l.used (length l.used)) l.place
+    l.best ≡ best_below g.S.Scale (held_by l.repertoire) (preferred_by g.S.Scale g.R.Rule l.preference) (tabled l.used (length l.used)) l.place

@@ -12,9 +12,10 @@ returns-in_err-check_call g c =
 pub route_length-count-requires : goal.route_length-count-requires
 route_length-count-requires g c =
     let v = call_served g.S.Scale (held_by c.args.repertoire) c.args.self.now.settled.standing c.args.trails.now (passed _ c.in_ok-check_call.ensures) in
-    let found = c.args.self.now.found in
-    (omega (arith, v.within, c.from-place.ensures),
-    λ i z l. lower_parents g.S.Scale (held_by c.args.repertoire) c.args.self.now.settled c.args.trails.now c.args.links.now c.in_ok-check_call.ensures i z (omega (arith, c.from-place.ensures)))
+    let found = c.args.self.now.found in (
+      omega (arith, v.within, c.from-place.ensures),
+      λ i z l. lower_parents g.S.Scale (held_by c.args.repertoire) c.args.self.now.settled c.args.trails.now c.args.links.now c.in_ok-check_call.ensures i z (omega (arith, c.from-place.ensures)),
+    )
 
 pub returns-then-count-links : goal.returns-then-count-links
 returns-then-count-links g c =
@@ -26,8 +27,10 @@ write_route-requires g c =
     let v = call_served g.S.Scale (held_by c.args.repertoire) c.args.self.now.settled.standing c.args.trails.now (passed _ c.in_ok-check_call.ensures) in
     let found = c.args.self.now.found in
     record {
-      leads = (omega (arith, v.within, c.from-place.ensures),
-          λ i z l. lower_parents g.S.Scale (held_by c.args.repertoire) c.args.self.now.settled c.args.trails.now c.args.links.now c.in_ok-check_call.ensures i z (omega (arith, c.from-place.ensures)));
+      leads = (
+        omega (arith, v.within, c.from-place.ensures),
+        λ i z l. lower_parents g.S.Scale (held_by c.args.repertoire) c.args.self.now.settled c.args.trails.now c.args.links.now c.in_ok-check_call.ensures i z (omega (arith, c.from-place.ensures)),
+      );
       counted = c.route_length-count.ensures;
       room = c.if-count-links.false;
     }
