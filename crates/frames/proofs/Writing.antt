@@ -1,6 +1,6 @@
 -- Writing over a buffer.
-use Rattle.std.proofs.Common.{◌≡◌, ℕ, zero, suc, ◌+◌, ◌/◌, ◌%◌, ◌≤◌, List, [], ◌++◌, length, take, drop, sym, refl, ap, ◌∙◌, add-zero, arith}
-use Rattle.std.proofs.lemmas.List.{append_assoc, length-append, length-take-le, length_push, take-append-drop, take_at, drop_at, drop-drop}
+use Rattle.std.proofs.Common.{◌≡◌, ℕ, zero, suc, ◌+◌, ◌/◌, ◌%◌, ◌≤◌, List, ◌++◌, length, take, drop, sym, refl, ap, ◌∙◌, arith}
+use Rattle.std.proofs.lemmas.List.{append_assoc, length-append, length-take-le, length_push, take_at, drop_at, drop-drop}
 use Rattle.frames.specs.Digits.{digit_of, digits}
 use Rattle.scale.specs.Weave.{WeaveCost}
 use Rattle.frames.specs.declared.entries.Entry.{Entry}
@@ -13,9 +13,6 @@ length_digits zero n = refl
 length_digits (suc w) n = length_push (digits w (n / 16)) (digit_of (n % 16)) ∙ omega (arith, length_digits w (n / 16))
 
 -- ---- over
-
-pub over_none : (b : List ℕ) (i : ℕ) → over b i [] ≡ b
-over_none b i = ap (λ k. take i b ++ drop k b) (add-zero i) ∙ take-append-drop i b
 
 -- one text behind another
 pub over-over : (b v w : List ℕ) (i n : ℕ) → length v ≡ n → i + n ≤ length b → over (over b i v) (i + n) w ≡ over b i (v ++ w)

@@ -18,8 +18,9 @@ use Rattle.trails.specs.Tables.{Table, tabled, trail_at, trail_path}
 use Rattle.trails.specs.Steps.{step_answer, outlook, moved_by, ran_from}
 use Rattle.trails.specs.Checks.{first_failing, is_motif, call_checks}
 use Rattle.trails.specs.Calls.{After, Routed, with_used, refused, table_of, prefers_by, ahead, step_by, step, run_by, run, settle_by, settle, plan_path, route_by, route}
-use Rattle.trails.proofs.Checks.{call_served}
+use Rattle.trails.proofs.Checks.{Served, call_served}
 use Rattle.checks.specs.Answers.{checked}
+use Rattle.routes.specs.Walks.{LeadsBack}
 use Rattle.planner.specs.Answers.{settled_by}
 use Rattle.planner.proofs.Begins.{passed, served, refused_by}
 
@@ -86,13 +87,19 @@ module _ {S R : Type 0} (s : Ghosts S) (r : Repertoire S) (p : Settled S R) (tra
     unfolding route
     route_is = served (first_failing (call_checks s r p.standing trails)) e _ _
 
-    -- the parents of the used places are lower places
-    pub lower_parents : (i : ℕ) → 0 < i → i < p.standing.used → (trail_at s trails i).parent < i
-    lower_parents zero z l = absurd (omega arith)
-    lower_parents (suc i) z l =
+    relied : Served s r p.standing trails
+    relied = call_served s r p.standing trails (passed _ e)
+
+    lower : (i : ℕ) → 0 < i → i < p.standing.used → (trail_at s trails i).parent < i
+    lower zero z l = absurd (omega arith)
+    lower (suc i) z l =
         let t = trail_at s trails (suc i) in
-        let right = and_parts (is_motif s r t.motif) (ltb t.link (link_count r) && ltb t.parent (suc i)) ((call_served s r p.standing trails (passed _ e)).places_right (suc i) l) in
+        let right = and_parts (is_motif s r t.motif) (ltb t.link (link_count r) && ltb t.parent (suc i)) (relied.places_right (suc i) l) in
         ltb-true t.parent (suc i) (and_parts (ltb t.link (link_count r)) (ltb t.parent (suc i)) right.1).1
+
+    -- from the plan's place the way leads back
+    pub leads_back : (place : ℕ) → place ≡ p.place → p.place < p.standing.used → LeadsBack s trails place
+    leads_back place at found = (omega (arith, relied.within), λ i z l. lower i z (omega arith))
 
     module _ (place count : ℕ) (at : place ≡ p.place) (counted : count ≡ length (trail_path s trails place)) where
       path_length : length (plan_path s p trails) ≡ count

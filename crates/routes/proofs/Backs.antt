@@ -1,16 +1,13 @@
 -- Walking back along the parents: one place further.
 use Rattle.std.proofs.Common.{◌≡◌, ℕ, ◌+◌, ◌<◌, ◌≤◌, List, [], ◌∷◌, ◌++◌, length, get_or, reverse, take, drop, set, ap, ◌∙◌, append_assoc, arith}
 use native.Mathlib.Nat.{sub_self}
-use Rattle.std.proofs.lemmas.List.{get_or_read, take_more, set-append_right, length-take-le, length-append, length-reverse, reverse-append}
+use Rattle.std.proofs.lemmas.List.{take_more, set-append_right, length-take-le, length-append, length-reverse, reverse-append}
 use Rattle.scale.specs.declared.scales.Scale.{Ghosts}
 use Rattle.trails.specs.declared.trails.Trail.{Trail}
 use Rattle.trails.specs.Tables.{trail_at, trail_path}
+use Rattle.trails.proofs.ReadTrails.{read_at}
 use Rattle.trails.proofs.TrailPaths.{path_grows}
 use Rattle.routes.specs.Walks.{LeadsBack, links_back}
-
--- an element that was read is the trail at its place
-pub read_at : {S : Type 0} (s : Ghosts S) (trails : List (Trail S)) (at : ℕ) (x : Trail S) → at < length trails → x ≡ get_or trails at x → x ≡ trail_at s trails at
-read_at s trails at x l e = get_or_read trails at x l e _
 
 -- x is read at a place of the walk that is not its end
 module _ {S : Type 0} (s : Ghosts S) (trails : List (Trail S)) (at : ℕ) (leads : LeadsBack s trails at) (z : 0 < at) (x : Trail S) (read : x ≡ get_or trails at x) where

@@ -9,7 +9,7 @@ use Rattle.trails.specs.Repertoires.{Repertoire}
 use Rattle.trails.specs.Tables.{is_open, tabled, trail_at, estimate}
 use Rattle.trails.specs.Choosing.{goes_first, estimate_at, best_below, best}
 use Rattle.table.specs.Chosen.{place_of, better_by}
-use Rattle.table.proofs.Comparing.{read_at}
+use Rattle.trails.proofs.ReadTrails.{read_at}
 
 -- one test behind another, or both at once
 both_tests : {X : Type 0} (a b : Bool) (x y : X) → cond a (cond b x y) y ≡ cond (a && b) x y

@@ -2,19 +2,15 @@
 use Rattle.std.proofs.Common.{◌≡◌, ℕ, zero, suc, ◌+◌, ◌<◌, ◌≤◌, Bool, cond, ◌||◌, List, ◌++◌, length, get_or, set, map, take, drop, sym, refl, ap, ◌∙◌, add-one, arith}
 use Rattle.std.specs.List.{list_any}
 use Rattle.std.proofs.Math.Bool.{or_comm}
-use Rattle.std.proofs.lemmas.List.{get_or_default, get_or_read}
+use Rattle.std.proofs.lemmas.List.{get_or_default}
 use Rattle.std.proofs.lemmas.List.Edits.{map_over_more}
 use Rattle.std.proofs.lemmas.List.Folds.{list_any_more}
 use Rattle.scale.specs.declared.scales.Scale.{Ghosts}
 use Rattle.trails.specs.declared.states.State.TheVariants.{Dropped}
 use Rattle.trails.specs.declared.trails.Trail.{Trail}
 use Rattle.trails.specs.Below.{some_below}
-use Rattle.trails.specs.Tables.{tabled, trail_at, restated}
+use Rattle.trails.specs.Tables.{tabled, restated}
 use Rattle.trails.specs.Expanding.{withstands, yields, beside, withstood}
-
--- the trail as it was read is the trail at its place
-pub read_at : {S : Type 0} (s : Ghosts S) (trails : List (Trail S)) (i : ℕ) (t : Trail S) → i < length trails → t ≡ get_or trails i t → t ≡ trail_at s trails i
-read_at s trails i t lt read = get_or_read trails i t lt read (record { motif = 0; parent = 0; link = 0; cost = s.neutral; state = Dropped })
 
 -- ---- which withstand it
 

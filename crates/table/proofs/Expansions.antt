@@ -11,7 +11,7 @@ use Rattle.trails.specs.declared.trails.Trail.{Trail}
 use Rattle.trails.specs.Repertoires.{Repertoire, link_at, link_count, leaving_count}
 use Rattle.trails.specs.Tables.{Table, tabled, trail_at, restated}
 use Rattle.trails.specs.Expanding.{tried, grown_by, tried_below, closed, expanded}
-use Rattle.table.proofs.Comparing.{read_at}
+use Rattle.trails.proofs.ReadTrails.{read_at}
 
 -- how many of the first k links leave a motif
 abbrev pub leaving_of : {S : Type 0} → Repertoire S → ℕ → ℕ → ℕ

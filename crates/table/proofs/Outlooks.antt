@@ -11,7 +11,7 @@ use Rattle.trails.specs.Choosing.{best}
 use Rattle.trails.specs.Steps.{motif_at, outlook_by, outlook}
 use Rattle.table.specs.Chosen.{place_of}
 use Rattle.table.proofs.Bests.{best_front}
-use Rattle.table.proofs.Comparing.{read_at}
+use Rattle.trails.proofs.ReadTrails.{read_at}
 
 module _ {S : Type 0} (s : Ghosts S) (r : Repertoire S) (t : Table S) where
   -- none is open

@@ -8,7 +8,7 @@ use Rattle.trails.specs.declared.standings.Standing.{Standing}
 use Rattle.trails.specs.declared.trails.Trail.{Trail}
 use Rattle.trails.specs.Below.{all_below}
 use Rattle.trails.specs.Repertoires.{Repertoire, link_at, link_count}
-use Rattle.trails.specs.Checks.{most_links, first_failing, is_between_motifs, guide_suits, repertoire_checks, length_checks, begin_checks, is_same_repertoire, is_place_right, is_same_table, standing_checks, call_checks}
+use Rattle.trails.specs.Checks.{first_failing, is_between_motifs, guide_suits, repertoire_checks, length_checks, begin_checks, is_same_repertoire, is_place_right, is_same_table, standing_checks, call_checks}
 use Rattle.trails.proofs.Invariant.{Fair, Whole}
 use Rattle.trails.proofs.Paths.{Guided}
 use Rattle.trails.proofs.Bounded.{motif_known}
@@ -75,7 +75,6 @@ begin_accepted s r trails e =
 
 -- what a call may rely on that has made its checks, whatever has become of the table
 pub record Served {S R : Type 0} (s : Ghosts S) (r : Repertoire S) (x : Standing S R) (trails : List (Trail S)) : Type 0 where
-  pub few_links : link_count r ≤ most_links
   pub places_is : length trails ≡ x.places
   pub within : x.used ≤ length trails
   pub places_right : (i : ℕ) → i < x.used → is_place_right s r trails i ≡ true
@@ -86,7 +85,6 @@ call_served s r x trails e =
     let table = and_parts _ _ both.1.1.0 in
     let places = and_parts _ _ table.1 in
     record {
-      few_links = leb-true _ _ both.0.1.1.0;
       places_is = eqb-true _ _ table.0;
       within = leb-true _ _ places.0;
       places_right = all_pass x.used (is_place_right s r trails) places.1;

@@ -10,6 +10,7 @@ pub mod Listing
 pub mod Paths
 pub mod Places
 pub mod Promise
+pub mod ReadTrails
 pub mod Rows
 pub mod Steps
 pub mod TrailPaths

@@ -1,8 +1,5 @@
-use Rattle.std.proofs.Common.{arith}
 use Rattle.trails.specs.Repertoires.{held_by}
-use Rattle.trails.proofs.Checks.{call_served}
-use Rattle.planner.proofs.Begins.{passed}
-use Rattle.planner.proofs.Serves.{route_refused, lower_parents, route_too_long, route_done}
+use Rattle.planner.proofs.Serves.{route_refused, leads_back, route_too_long, route_done}
 use Rattle.planner.proofs.searches.Plan.route.Goals as goal
 
 pub returns-in_err-check_call : goal.returns-in_err-check_call
@@ -11,29 +8,16 @@ returns-in_err-check_call g c =
 
 pub route_length-count-requires : goal.route_length-count-requires
 route_length-count-requires g c =
-    let v = call_served g.S.Scale (held_by c.args.repertoire) c.args.self.now.settled.standing c.args.trails.now (passed _ c.in_ok-check_call.ensures) in
-    let found = c.args.self.now.found in (
-      omega (arith, v.within, c.from-place.ensures),
-      λ i z l. lower_parents g.S.Scale (held_by c.args.repertoire) c.args.self.now.settled c.args.trails.now c.args.links.now c.in_ok-check_call.ensures i z (omega (arith, c.from-place.ensures)),
-    )
+    leads_back g.S.Scale (held_by c.args.repertoire) c.args.self.now.settled c.args.trails.now c.args.links.now c.in_ok-check_call.ensures c.from-place.result c.from-place.ensures c.args.self.now.found
 
 pub returns-then-count-links : goal.returns-then-count-links
 returns-then-count-links g c =
     route_too_long g.S.Scale (held_by c.args.repertoire) c.args.self.now.settled c.args.trails.now c.args.links.now c.in_ok-check_call.ensures c.from-place.result c.route_length-count.result c.from-place.ensures
     c.route_length-count.ensures c.if-count-links.true
 
-pub write_route-requires : goal.write_route-requires
-write_route-requires g c =
-    let v = call_served g.S.Scale (held_by c.args.repertoire) c.args.self.now.settled.standing c.args.trails.now (passed _ c.in_ok-check_call.ensures) in
-    let found = c.args.self.now.found in
-    record {
-      leads = (
-        omega (arith, v.within, c.from-place.ensures),
-        λ i z l. lower_parents g.S.Scale (held_by c.args.repertoire) c.args.self.now.settled c.args.trails.now c.args.links.now c.in_ok-check_call.ensures i z (omega (arith, c.from-place.ensures)),
-      );
-      counted = c.route_length-count.ensures;
-      room = c.if-count-links.false;
-    }
+pub write_route-requires-clause-leads : goal.write_route-requires-clause-leads
+write_route-requires-clause-leads g c =
+    leads_back g.S.Scale (held_by c.args.repertoire) c.args.self.now.settled c.args.trails.now c.args.links.now c.in_ok-check_call.ensures c.from-place.result c.from-place.ensures c.args.self.now.found
 
 pub returns : goal.returns
 returns g c =
