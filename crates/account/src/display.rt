@@ -85,24 +85,3 @@ impl fmt::Display for Account {
         write!(f, "{limits}")
     }
 }
-
-impl fmt::Display for Rejection {
-    fn fmt<W: fmt::Write>(&self, f: &mut fmt::Formatter<W>) -> fmt::Result {
-        match self {
-            Rejection::Faulty(Fault { refusal, line }) => {
-                let number = refusal.number();
-                writeln!(
-                    f,
-                    "The sheet is refused with number {number}, at line {line}: {refusal}."
-                )
-            }
-            Rejection::TooLong => {
-                let number = Refusal::NotAFrame.number();
-                writeln!(
-                    f,
-                    "The sheet is refused with number {number}: it is longer than {MOST_BYTES} bytes."
-                )
-            }
-        }
-    }
-}

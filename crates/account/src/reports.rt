@@ -2,7 +2,10 @@
 ghost use Rattle.std.specs.Prelude.{◌≡◌};
 ghost use Rattle.account.specs.declared.reports.Rejection.TheVariants.{Faulty};
 
+use super::MOST_BYTES;
+use repertoire::Refusal;
 use sheet::{Contents, Fault};
+use thiserror::Error;
 
 // An accepted sheet.
 #[derive(Clone, Copy)]
@@ -14,10 +17,12 @@ pub struct Account {
     pub reaching: usize,
 }
 
-#[derive(Clone, Copy)]
+#[derive(Clone, Copy, Debug, Error)]
 pub enum Rejection {
+    #[error("The sheet is refused with number {}, at line {}: {}.", .0.refusal.number(), .0.line, .0.refusal)]
     Faulty(Fault),
     // Longer than a sheet may be, which is refused as a line that is not a frame.
+    #[error("The sheet is refused with number {}: it is longer than {MOST_BYTES} bytes.", Refusal::NotAFrame.number())]
     TooLong,
 }
 

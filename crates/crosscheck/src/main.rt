@@ -144,7 +144,7 @@ fn try_sheet<R: Files + Alloc + Print>(
             print!(rt; "{account}")?;
             println!(rt; "Written again byte for byte: {same}")
         }
-        Err(rejection) => print!(rt; "{rejection}"),
+        Err(rejection) => println!(rt; "{rejection}"),
     }
 }
 
@@ -172,7 +172,7 @@ fn try_edge<R: Alloc + Print>(
         guides.as_mut_slice(),
     ) {
         Ok(account) => print!(rt; "{account}"),
-        Err(rejection) => print!(rt; "{rejection}"),
+        Err(rejection) => println!(rt; "{rejection}"),
     }
 }
 

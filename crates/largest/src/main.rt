@@ -38,10 +38,7 @@ const ROUNDS: [(u16, usize, (u16, u32, u32)); 7] = [
 ];
 
 fn main(rt: HostRuntime) -> io::Result<()> {
-    let mut links = Vec::new(rt.alloc());
-    for number in 0..LINKS {
-        links.push(link_of(number))?;
-    }
+    let links: Vec<_> = (0..LINKS).map(link_of).collect(rt.alloc())?;
     let guides = vec![in rt.alloc(); weave_cost(0, 0, 0); usize::from(HEADER.motifs)]?;
     let mut row = vec![in rt.alloc(); unused_place(); PLACES]?;
     let repertoire = Repertoire {

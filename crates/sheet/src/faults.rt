@@ -2,7 +2,7 @@
 // line behind the last.
 use repertoire::Refusal;
 
-#[derive(Clone, Copy)]
+#[derive(Clone, Copy, Debug)]
 pub struct Fault {
     pub refusal: Refusal,
     pub line: usize,

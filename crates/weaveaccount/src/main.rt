@@ -26,6 +26,6 @@ fn main(rt: HostRuntime) -> io::Result<()> {
         guides.as_mut_slice(),
     ) {
         Ok(account) => print!(rt; "{account}"),
-        Err(rejection) => print!(rt; "{rejection}"),
+        Err(rejection) => println!(rt; "{rejection}"),
     }
 }
