@@ -54,12 +54,15 @@ def blocks(pattern):
 
 def point_1():
     """own enums like Option or Result, flags beside values, numbers for kinds and refusals"""
-    yield from blocks(r"pub enum \w+(?:<[^>]*>)? \{\n(?:\s*//.*\n)*\s*\w+\(.*\),\n(?:(?:\s*//.*\n)*\s*\w+(?:\(.*\))?,\n){1,2}\}")
+    errors = set(re.findall(r"Result<.*, (\w+)>", "\n".join(p.read_text() for p in SOURCES)))
+    for place in blocks(r"pub enum \w+(?:<[^>]*>)? \{\n(?:\s*(?://|#\[).*\n)*\s*\w+\(.*\),\n(?:(?:\s*(?://|#\[).*\n)*\s*\w+(?:\(.*\))?,\n){1,2}\}"):
+        if re.search(r"pub enum (\w+)", place).group(1) not in errors:
+            yield place
     yield from blocks(r"if let Some\((\w+)\) = [^{;]*\{\s*return (?:Err|Some)\(")
     yield from blocks(r"(?:None => None|Some\((\w+)\) => Some\(\1\)|Ok\((\w+)\) => Ok\(\2\)|Ok\(_\) => None),")
     yield from blocks(r"else \{\s*(?:None|Some\([^)]*\)+)\s*\}")
     yield from blocks(r"^ *(?:\w+::)?\w+ => (?:Some\()?\d+\)?,(?:\n *(?:\w+::)?\w+ => (?:Some\()?\d+\)?,)+")
-    yield from blocks(r"^ *\d+ => .*,(?:\n *\d+ => .*,)+")
+    yield from blocks(r"^ *\d+ => Some\(.*,(?:\n *\d+ => Some\(.*,)+")
     yield from lines(r"let mut \w+ = (?:false|true);", r"\belse \{ ?0 ?\}")
 
 
@@ -93,7 +96,8 @@ def point_4():
     """equality, order, copying, conversion and printing by hand"""
     yield from lines(r"^impl.* (?:PartialEq|Eq|PartialOrd|Ord|Clone|Copy|Debug|Default)(?:<.*>)? for ")
     yield from lines(r"^impl.* (?:fmt::Display|From<.*>) for (?:Refusal|Fault|Report|\w*Error)\b")
-    yield from lines(r"\bas u8 <=?", r"\.value <=? ", r"^ *\w+\.(\w+) == \w+\.\1$", r"&& (\w+)\.(\w+) == (?!\1)\w+\.\2$")
+    yield from lines(r"\bas u8 <=?", r"\.value <=? ")
+    yield from blocks(r"^ *(\w+)\.(\w+) == (\w+)\.\2\n(?: *&& \1\.(\w+) == \3\.\4\n)+")
     yield from lines(r"^    (?:pub )?fn (?:code|coded|number)\(.*\) -> ")
 
 

@@ -37,7 +37,7 @@ impl fmt::Display for Limits {
         writeln!(f, "Limits, the most important first:")?;
         writeln!(f, "  longest float: {float} at most")?;
         writeln!(f, "  yarns: {yarns}")?;
-        writeln!(f, "  picks: {picks} at most")
+        write!(f, "  picks: {picks} at most")
     }
 }
 

@@ -25,7 +25,7 @@ fn main(rt: HostRuntime) -> io::Result<()> {
         links.as_mut_slice(),
         guides.as_mut_slice(),
     ) {
-        Ok(account) => print!(rt; "{account}"),
+        Ok(account) => println!(rt; "{account}"),
         Err(rejection) => println!(rt; "{rejection}"),
     }
 }
