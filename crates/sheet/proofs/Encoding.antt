@@ -1,10 +1,12 @@
 -- Lines written one behind another.
-use Rattle.std.proofs.Common.{◌≡◌, ℕ, ◌+◌, ◌*◌, ◌<◌, ◌≤◌, List, [], ◌∷◌, ◌++◌, map, length, get_or, drop, Ok, Result, sym, refl, ap, ◌∙◌, subst, arith}
+use Rattle.std.proofs.Common.{◌≡◌, ℕ, ◌+◌, ◌*◌, ◌<◌, ◌≤◌, cond, leb, List, [], ◌∷◌, ◌++◌, map, length, get_or, drop, Ok, Err, Result, sym, refl, ap, ◌∙◌, subst, arith}
 use Rattle.std.proofs.lemmas.Grind.{flat_map-append}
 use Rattle.std.proofs.lemmas.List.{at_drop_more, drop_more, append_assoc, length-append}
 use Rattle.std.proofs.ByRecursion.{All-append}
+use Rattle.std.proofs.lemmas.Bool.{cond-true, le-leb}
 use Rattle.std.specs.List.{AllByRecursion}
 use Rattle.repertoire.specs.declared.refusals.Refusal.{Refusal}
+use Rattle.repertoire.specs.declared.refusals.Refusal.TheVariants.{BufferTooShort}
 use Rattle.frames.specs.declared.entries.Entry.{Entry}
 use Rattle.frames.specs.declared.entries.Entry.TheVariants as entry
 use Rattle.frames.specs.Frames.{line_of, over, ReadsBack}
@@ -17,6 +19,10 @@ pub over_then : (b c d u v : List ℕ) (at n : ℕ) → n ≡ at + length u → 
 over_then b c d u v at n e h p q = q ∙ (λ i. over (p i) (e i) v) ∙ over-over b u v at (length u) refl (omega arith)
 
 -- ---- a line for each row
+
+-- a line that was written where there is room ends behind its length
+pub line_ends_at : (b : List ℕ) (at : ℕ) (e : Entry) → at + length (line_of e) ≤ length b → {r : Result ℕ Refusal} (n : ℕ) → r ≡ Ok n → r ≡ cond (leb (at + length (line_of e)) (length b)) (Ok (at + length (line_of e))) (Err BufferTooShort) → n ≡ at + length (line_of e)
+line_ends_at b at e room n p q = let e : Ok n ≡ Ok (at + length (line_of e)) = sym p ∙ q ∙ cond-true _ _ _ (le-leb _ _ room) in cc
 
 -- where rows end that were written
 pub rows_end : {n m : ℕ} → ◌≡◌ {A = Result ℕ Refusal} (Ok n) (Ok m) → n ≡ m

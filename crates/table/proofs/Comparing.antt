@@ -1,7 +1,8 @@
 -- The used trails beside a new one: which withstand it, and what becomes of each.
-use Rattle.std.proofs.Common.{◌≡◌, ℕ, zero, suc, ◌+◌, ◌<◌, ◌≤◌, Bool, cond, ◌||◌, List, ◌++◌, length, get_or, set, map, take, drop, sym, refl, ap, ◌∙◌, add-one, arith}
+use Rattle.std.proofs.Common.{◌≡◌, ℕ, zero, suc, ◌+◌, ◌<◌, ◌≤◌, Bool, true, cond, ◌||◌, List, ◌++◌, length, get_or, set, map, take, drop, sym, refl, ap, ◌∙◌, inl, inr, add-one, arith}
 use Rattle.std.specs.List.{list_any}
 use Rattle.std.proofs.Math.Bool.{or_comm}
+use Rattle.std.proofs.lemmas.Bool.{cases_eq, or_left, or_right}
 use Rattle.std.proofs.lemmas.List.{get_or_default}
 use Rattle.std.proofs.lemmas.List.Edits.{map_over_more}
 use Rattle.std.proofs.lemmas.List.Folds.{list_any_more}
@@ -11,6 +12,14 @@ use Rattle.trails.specs.declared.trails.Trail.{Trail}
 use Rattle.trails.specs.Below.{some_below}
 use Rattle.trails.specs.Tables.{tabled, restated}
 use Rattle.trails.specs.Expanding.{withstands, yields, beside, withstood}
+
+-- a number below n that passes is one of some
+pub some_below_at : (p : ℕ → Bool) (i n : ℕ) → i < n → p i ≡ true → some_below n p ≡ true
+some_below_at p i zero lt hit = absurd (omega arith)
+some_below_at p i (suc n) lt hit = elim (cases_eq i n) [
+  | inl e ↦ or_left (p n) _ (rw e at hit)
+  | inr other ↦ or_right (p n) _ (some_below_at p i n (omega arith) hit)
+]
 
 -- ---- which withstand it
 
