@@ -70,13 +70,13 @@ impl fmt::Display for Account {
             f,
             "Links that leave motif {start}: {leaving}. Links that reach motif {goal}: {reaching}."
         )?;
-        if self.lacks(leaving) {
+        if self.cannot_begin() {
             writeln!(
                 f,
                 "No link leaves motif {start}, so no chain can begin there."
             )?;
         }
-        if self.lacks(reaching) {
+        if self.cannot_end() {
             writeln!(
                 f,
                 "No link reaches motif {goal}, so no chain can end there."

@@ -21,6 +21,20 @@ impl Account {
         let header = self.contents.header;
         count == 0 && header.start != header.goal
     }
+
+    // Whether no chain can begin, since no link leaves the motif on the loom and another is ordered.
+    fn cannot_begin(&self) -> bool
+        ensures { result ≡ lacking self.now.leaving self.now.contents.header }
+    {
+        self.lacks(self.leaving)
+    }
+
+    // Whether no chain can end, since no link reaches the motif ordered and another is on the loom.
+    fn cannot_end(&self) -> bool
+        ensures { result ≡ lacking self.now.reaching self.now.contents.header }
+    {
+        self.lacks(self.reaching)
+    }
 }
 
 // The longest sheet that is looked at, in bytes.

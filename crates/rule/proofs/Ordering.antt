@@ -32,10 +32,7 @@ one_unchosen false false true l' h k = inr refl
 one_unchosen false false false true h k = inl refl
 one_unchosen false false false false h k = absurd (⊎_elim (λ e. both_ways false refl e) (λ e. both_ways false refl e) k)
 
-module _ {S : Type 0} (s : Ghosts S) (better : ℕ → ℕ → Bool) (limits : S) (laws : Laws s.neutral s.joined s.no_worse s.liked) (shaped : Shaped s.no_worse s.shape) (sound : Sound better) where
-  grows : HoldsAll s.no_worse s.shape
-  grows = holds_all s.no_worse s.shape shaped
-
+module _ {S : Type 0} (s : Ghosts S) (better : ℕ → ℕ → Bool) (limits : S) (laws : Laws s.neutral s.joined s.no_worse s.liked) (grows : HoldsAll s.no_worse s.shape) (sound : Sound better) where
   is_set : (x : S) → IsSet (held_set s.shape limits x)
   is_set x = omega arith
 
@@ -75,3 +72,7 @@ module _ {S : Type 0} (s : Ghosts S) (better : ℕ → ℕ → Bool) (limits : S
     carries = carries;
     no_worse = λ x y h. unpreferred x y (sound.contains _ _ (is_set x) (is_set y) (grows limits x y h)) (λ _. laws.agrees x y h);
   }
+
+-- it is an order by the laws of the scale and the rule
+pub ordered : {S : Type 0} (s : Ghosts S) (better : ℕ → ℕ → Bool) (limits : S) → Laws s.neutral s.joined s.no_worse s.liked → Shaped s.no_worse s.shape → Sound better → Orders s better limits
+ordered s better limits laws shaped sound = orders s better limits laws (holds_all s.no_worse s.shape shaped) sound

@@ -13,3 +13,14 @@ pub trait Rule {
 
     ghost sound: { (rule : Self) → Sound (better rule) };
 }
+
+// A rule that is lent is that rule.
+impl<R: Rule> Rule for &R {
+    ghost better = { λ rule. R.Rule.better rule.now };
+
+    ghost sound = { λ rule. R.Rule.sound rule.now };
+
+    fn compare(&self, first: u8, second: u8) -> Verdict {
+        R::compare(self, first, second)
+    }
+}

@@ -65,8 +65,11 @@ fn sheet_preference() -> Preference<WeaveCost, Ladder>
 }
 
 // The sample sheet: a plan and its route, and again under another limit; then a table that is too small.
-fn plans_of_the_sheet(rt: &impl Print, sheet: Repertoire<'_, WeaveCost>) -> Result<()> {
-    let trails: &mut [Trail<WeaveCost>] = &mut [unused_place(); 8];
+fn plans_of_the_sheet(
+    rt: &impl Print,
+    sheet: Repertoire<'_, WeaveCost>,
+    trails: &mut [Trail<WeaveCost>],
+) -> Result<()> {
     let four: &mut [Trail<WeaveCost>] = &mut [unused_place(); 4];
     let first = begun_trip(sheet, sheet_preference(), trails, MOST)?;
     println!(rt;
@@ -87,8 +90,11 @@ fn plans_of_the_sheet(rt: &impl Print, sheet: Repertoire<'_, WeaveCost>) -> Resu
 }
 
 // The sample sheet, step by step until there is nothing to expand.
-fn steps_of_the_sheet(rt: &impl Print, sheet: Repertoire<'_, WeaveCost>) -> Result<()> {
-    let trails: &mut [Trail<WeaveCost>] = &mut [unused_place(); 8];
+fn steps_of_the_sheet(
+    rt: &impl Print,
+    sheet: Repertoire<'_, WeaveCost>,
+    trails: &mut [Trail<WeaveCost>],
+) -> Result<()> {
     println!(rt; "The sample sheet step by step")?;
     let mut looking = begin(sheet, sheet_preference(), trails)?;
     for _ in 0..10 {
@@ -122,11 +128,10 @@ fn plan_of_a_change(rt: &impl Print) -> Result<()> {
 }
 
 // One motif, and two without a link, with budgets that suffice and that don't.
-fn smallest_plans(rt: &impl Print) -> Result<()> {
+fn smallest_plans(rt: &impl Print, trails: &mut [Trail<WeaveCost>]) -> Result<()> {
     let none = weave_cost(0, 0, 0);
     let one: &[WeaveCost] = &[none];
     let two: &[WeaveCost] = &[none; 2];
-    let trails: &mut [Trail<WeaveCost>] = &mut [unused_place(); 8];
     let same = Repertoire {
         header: SAME,
         links: &[],
@@ -147,9 +152,12 @@ fn smallest_plans(rt: &impl Print) -> Result<()> {
 }
 
 // What begin refuses.
-fn refused_beginnings(rt: &impl Print, sheet: Repertoire<'_, WeaveCost>) -> Result<()> {
+fn refused_beginnings(
+    rt: &impl Print,
+    sheet: Repertoire<'_, WeaveCost>,
+    trails: &mut [Trail<WeaveCost>],
+) -> Result<()> {
     let high: &[WeaveCost] = &[weave_cost(5, 3, 40); 3];
-    let trails: &mut [Trail<WeaveCost>] = &mut [unused_place(); 8];
     let empty = Repertoire {
         header: EMPTY,
         links: &[],
@@ -169,8 +177,11 @@ fn refused_beginnings(rt: &impl Print, sheet: Repertoire<'_, WeaveCost>) -> Resu
 }
 
 // What the later calls refuse, and that they go on as if they had not been called.
-fn refused_calls(rt: &impl Print, sheet: Repertoire<'_, WeaveCost>) -> Result<()> {
-    let trails: &mut [Trail<WeaveCost>] = &mut [unused_place(); 8];
+fn refused_calls(
+    rt: &impl Print,
+    sheet: Repertoire<'_, WeaveCost>,
+    trails: &mut [Trail<WeaveCost>],
+) -> Result<()> {
     let seven: &mut [Trail<WeaveCost>] = &mut [unused_place(); 7];
     let back = Repertoire {
         header: BACK,
@@ -195,15 +206,17 @@ fn refused_calls(rt: &impl Print, sheet: Repertoire<'_, WeaveCost>) -> Result<()
 fn main(rt: HostRuntime) -> Result<()> {
     let links: &[Link<WeaveCost>] = &sheet_links();
     let guides: &[WeaveCost] = &[weave_cost(0, 0, 0); 3];
+    // One row for all of them: what one sample leaves in it, the next begins with.
+    let trails: &mut [Trail<WeaveCost>] = &mut [unused_place(); 8];
     let sheet = Repertoire {
         header: SHEET,
         links,
         guides,
     };
-    plans_of_the_sheet(&rt, sheet)?;
-    steps_of_the_sheet(&rt, sheet)?;
+    plans_of_the_sheet(&rt, sheet, trails)?;
+    steps_of_the_sheet(&rt, sheet, trails)?;
     plan_of_a_change(&rt)?;
-    smallest_plans(&rt)?;
-    refused_beginnings(&rt, sheet)?;
-    refused_calls(&rt, sheet)
+    smallest_plans(&rt, trails)?;
+    refused_beginnings(&rt, sheet, trails)?;
+    refused_calls(&rt, sheet, trails)
 }

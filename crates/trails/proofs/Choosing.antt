@@ -5,7 +5,7 @@ use Rattle.scale.specs.declared.scales.Scale.{Ghosts}
 use Rattle.scale.specs.Shapes.{Shaped}
 use Rattle.rule.specs.declared.rules.Rule as rules
 use Rattle.rule.specs.Soundness as soundness
-use Rattle.rule.proofs.Ordering.{orders}
+use Rattle.rule.proofs.Ordering.{ordered}
 use Rattle.trails.specs.declared.standings.Standing.{Standing}
 use Rattle.trails.specs.declared.states.State.TheVariants.{Open}
 use Rattle.trails.specs.Repertoires.{Repertoire}
@@ -25,7 +25,7 @@ pub record Chooses {S : Type 0} (s : Ghosts S) (prefers : S → S → Bool) : Ty
 -- preferred under any limits, by any rule that keeps its laws
 pub prefers_chooses : {S R : Type 0} (s : Ghosts S) → Fair s → Shaped s.no_worse s.shape → (q : rules.Ghosts R) → ((rule : R) → soundness.Sound (q.better rule)) → (x : Standing S R) → Chooses s (prefers_by s q x)
 prefers_chooses s laws shaped q sound x =
-    let o = orders s (q.better x.preference.rule) x.preference.limits laws shaped (sound x.preference.rule) in
+    let o = ordered s (q.better x.preference.rule) x.preference.limits laws shaped (sound x.preference.rule) in
     record { asymmetric = o.asymmetric; transitive = o.transitive; carries = λ a b c h k. o.carries c b a k h; no_worse = o.no_worse }
 
 module _ {S : Type 0} (s : Ghosts S) (r : Repertoire S) (prefers : S → S → Bool) (chooses : Chooses s prefers) (reflexive : (x : S) → s.no_worse x x ≡ true) (t : Table S) where
