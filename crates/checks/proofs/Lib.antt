@@ -1,2 +1,1 @@
-mod Behind
 mod Rows

@@ -1,5 +1,5 @@
 // The check of a repertoire and its pile.
-ghost use Rattle.std.specs.Prelude.{◌≡◌};
+ghost use Rattle.std.specs.Prelude.{◌≡◌, cond, Ok, Err};
 ghost use Rattle.trails.specs.Checks.{first_failing, repertoire_checks};
 ghost use Rattle.trails.specs.Repertoires.{held_by};
 ghost use Rattle.checks.specs.Answers.{checked, is_count};
@@ -24,31 +24,27 @@ pub fn is_count(most: usize, n: usize) -> bool
     (1..=most).contains(&n)
 }
 
+// Refuses where a check doesn't pass.
+pub fn ensure(passes: bool, refusal: Refusal) -> Result<(), Refusal>
+    ensures { result ≡ cond passes (Ok tt) (Err refusal) }
+{
+    if passes { Ok(()) } else { Err(refusal) }
+}
+
 // What is wrong with a repertoire or its pile, if anything.
 pub fn check_repertoire<S: Scale>(repertoire: Repertoire<'_, S>) -> Result<(), Refusal>
     ensures { result ≡ checked (first_failing (repertoire_checks S.Scale (held_by repertoire.entry))) }
 {
     let header = repertoire.header;
-    if !is_count(MOST_MOTIFS, usize::from(header.motifs)) {
-        return Err(Refusal::WrongMotifCount);
-    }
-    if !are_motifs(repertoire, header.start, header.goal) {
-        return Err(Refusal::UnknownEnd);
-    }
-    if repertoire.links.len() > MOST_LINKS {
-        return Err(Refusal::TooManyLinks);
-    }
-    if !all_between(repertoire) {
-        return Err(Refusal::UnknownMotif);
-    }
-    if repertoire.guides.len() != usize::from(header.motifs) {
-        return Err(Refusal::WrongGuideCount);
-    }
-    if !is_guided(repertoire) {
-        return Err(Refusal::GuideOverstates);
-    }
-    if S::parts() > MOST_SCALES {
-        return Err(Refusal::TooManyScales);
-    }
-    Ok(())
+    let motifs = usize::from(header.motifs);
+    ensure(is_count(MOST_MOTIFS, motifs), Refusal::WrongMotifCount)?;
+    ensure(
+        are_motifs(repertoire, header.start, header.goal),
+        Refusal::UnknownEnd,
+    )?;
+    ensure(repertoire.links.len() <= MOST_LINKS, Refusal::TooManyLinks)?;
+    ensure(all_between(repertoire), Refusal::UnknownMotif)?;
+    ensure(repertoire.guides.len() == motifs, Refusal::WrongGuideCount)?;
+    ensure(is_guided(repertoire), Refusal::GuideOverstates)?;
+    ensure(S::parts() <= MOST_SCALES, Refusal::TooManyScales)
 }

@@ -4,7 +4,7 @@ ghost use Rattle.trails.specs.Checks.{first_failing, begin_checks, call_checks, 
 ghost use Rattle.trails.specs.Repertoires.{held_by};
 ghost use Rattle.checks.specs.Answers.{checked, is_right, all_right};
 
-use super::repertoires::{check_repertoire, is_count};
+use super::repertoires::{check_repertoire, ensure, is_count};
 use repertoire::{Refusal, Repertoire};
 use scale::Scale;
 use trails::{Standing, Trail};
@@ -20,10 +20,10 @@ pub fn check_begin<S: Scale>(
     ensures { result ≡ checked (first_failing (begin_checks S.Scale (held_by repertoire.entry) trails.now)) }
 {
     check_repertoire(repertoire)?;
-    if !is_count(MOST_PLACES, trails.len()) {
-        return Err(Refusal::WrongTableLength);
-    }
-    Ok(())
+    ensure(
+        is_count(MOST_PLACES, trails.len()),
+        Refusal::WrongTableLength,
+    )
 }
 
 // Whether the repertoire has the counts and ends that were begun with.
@@ -78,11 +78,12 @@ pub fn check_call<S: Scale, R>(
     ensures { result ≡ checked (first_failing (call_checks S.Scale (held_by repertoire.entry) standing.now trails.now)) }
 {
     check_repertoire(repertoire)?;
-    if !is_same_repertoire(repertoire, standing) {
-        return Err(Refusal::AnotherRepertoire);
-    }
-    if !is_same_table(repertoire, standing, trails) {
-        return Err(Refusal::AnotherTable);
-    }
-    Ok(())
+    ensure(
+        is_same_repertoire(repertoire, standing),
+        Refusal::AnotherRepertoire,
+    )?;
+    ensure(
+        is_same_table(repertoire, standing, trails),
+        Refusal::AnotherTable,
+    )
 }
