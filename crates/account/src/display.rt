@@ -1,9 +1,8 @@
 // The words of the account.
-use super::MOST_BYTES;
-use super::reports::{Account, Rejection};
-use repertoire::{Header, Refusal};
+use super::reports::Account;
+use repertoire::Header;
 use scale::{WeaveCost, YarnSet};
-use sheet::{Contents, Fault};
+use sheet::Contents;
 use std::fmt;
 
 // The numbers of the yarns in a set, in rising order.

@@ -60,7 +60,7 @@ pub fn report(
     if sheet.len() > MOST_BYTES {
         return Err(Rejection::TooLong);
     }
-    let contents = decode(sheet, links, guides)?;
+    let contents = decode(sheet, links, guides).map_err(Rejection::Faulty)?;
     let read = &links[0..contents.links];
     Ok(Account {
         contents,

@@ -1,7 +1,4 @@
 // What the office is told of a sheet: an account of it, or why it is rejected.
-ghost use Rattle.std.specs.Prelude.{◌≡◌};
-ghost use Rattle.account.specs.declared.reports.Rejection.TheVariants.{Faulty};
-
 use super::MOST_BYTES;
 use repertoire::Refusal;
 use sheet::{Contents, Fault};
@@ -24,12 +21,4 @@ pub enum Rejection {
     // Longer than a sheet may be, which is refused as a line that is not a frame.
     #[error("The sheet is refused with number {}: it is longer than {MOST_BYTES} bytes.", Refusal::NotAFrame.number())]
     TooLong,
-}
-
-impl From<Fault> for Rejection {
-    ghost from_gives = { λ fault rejection. rejection ≡ Faulty fault };
-
-    fn from(fault: Fault) -> Rejection {
-        Rejection::Faulty(fault)
-    }
 }

@@ -2,11 +2,11 @@
 // too few, and prints what came of each.
 #![tactic(auto)]
 
-ghost use Rattle.std.specs.Prelude.{◌≡◌, true, length, take, Some, None, Ok, Err, IfOk, vec_len};
+ghost use Rattle.std.specs.Prelude.{◌≡◌, true, length, take, IfOk, vec_len};
 
 use account::{Account, GUIDE_ROWS, LINK_ROWS, report};
 use repertoire::{Header, Link, Refusal, Repertoire};
-use rule::{Count, Ladder, Preference};
+use rule::{Count, Ladder, Preference, Rule};
 use scale::{Grade, Scale, WeaveCost, harness_cost, held_set, weave_cost};
 use sheet::encode;
 use std::alloc::{Alloc, AllocError};
@@ -186,24 +186,28 @@ fn try_costs<S: Scale>(
 ) -> io::Result<()> {
     let sets = (held_set(limits, first), held_set(limits, second));
     println!(rt; "{name} costs that hold {sets:?}")?;
-    let by_ladder = choice(
-        &Preference {
-            limits,
-            rule: Ladder,
-        },
-        first,
-        second,
-    );
-    println!(rt; "By the ladder {by_ladder} is preferred")?;
-    let by_count = choice(
-        &Preference {
-            limits,
-            rule: Count,
-        },
-        first,
-        second,
-    );
-    println!(rt; "By count {by_count} is preferred")
+    let by_ladder = Preference {
+        limits,
+        rule: Ladder,
+    };
+    let by_count = Preference {
+        limits,
+        rule: Count,
+    };
+    try_choice(rt, "the ladder", &by_ladder, first, second)?;
+    try_choice(rt, "count", &by_count, first, second)
+}
+
+// Compares two costs by one preference.
+fn try_choice<S: Scale, R: Rule>(
+    rt: &impl Print,
+    name: &str,
+    preference: &Preference<S, R>,
+    first: S,
+    second: S,
+) -> io::Result<()> {
+    let chosen = choice(preference, first, second);
+    println!(rt; "By {name} {chosen} is preferred")
 }
 
 // Writes the shortest sheet into a buffer of so many bytes.

@@ -100,9 +100,8 @@ fn steps_of_the_sheet(
     for _ in 0..10 {
         let step = looking.step(sheet, trails)?;
         println!(rt; "  {}", Answer(step))?;
-        match step {
-            Step::Expanded => {}
-            Step::NoWay | Step::Plan => break,
+        if step != Step::Expanded {
+            break;
         }
     }
     Ok(())
