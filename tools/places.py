@@ -108,7 +108,7 @@ def point_5():
     for function in functions():
         for clause in function.clauses():
             if "result" not in clause:
-                clauses[re.sub(r"self\.(?:now|old|new)\.|\.(?:now|old|new)\b|\.entry\b", "", clause)].add(function.where())
+                clauses[re.sub(r"\b\w+\.(?:now|old|new)\.(?=\w)|\.(?:now|old|new)\b|\.entry\b", "", clause)].add(function.where())
         names = sorted({name for name, kind in function.parameters() if name != "self"})
         for i, first in enumerate(names):
             for second in names[i + 1:]:
