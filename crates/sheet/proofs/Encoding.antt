@@ -9,7 +9,7 @@ use Rattle.repertoire.specs.declared.refusals.Refusal.{Refusal}
 use Rattle.repertoire.specs.declared.refusals.Refusal.TheVariants.{BufferTooShort}
 use Rattle.frames.specs.declared.entries.Entry.{Entry}
 use Rattle.frames.specs.declared.entries.Entry.TheVariants as entry
-use Rattle.frames.specs.Frames.{line_of, over, ReadsBack}
+use Rattle.frames.specs.Frames.{body_length, entry_kind, line_of, over, ReadsBack}
 use Rattle.frames.proofs.Writing.{over-over, length_line}
 use Rattle.sheet.specs.Sheets.{Sheet, entries_of, written, text_of, onto}
 
@@ -44,6 +44,10 @@ length_rows : {R : Type 0} (said : R → Entry) (n : ℕ) → ((x : R) → lengt
 length_rows said n each [] = omega arith
 length_rows said n each (x ∷ xs) = omega (arith, length-append (line_of (said x)) (text_of (map said xs)), each x, length_rows said n each xs)
 
+-- two lines, whatever they say
+pub two_lines : (d e : Entry) → length (text_of (d ∷ (e ∷ []))) ≡ body_length (entry_kind d) + (body_length (entry_kind e) + 6)
+two_lines d e = omega (arith, length-append (line_of d) (line_of e ++ []), length-append (line_of e) [], length_line d, length_line e)
+
 module _ (s : Sheet) where
   -- its four parts
   abbrev head : List ℕ
@@ -76,9 +80,8 @@ module _ (s : Sheet) where
   pub lengths : Lengths
   lengths =
       let h = line_of (entry.Header s.header) in
-      let m = line_of (entry.Limits s.limits) in
       let head_is : length head ≡ 15 = omega (arith, length-append h [], length_line (entry.Header s.header)) in
-      let tail_is : length tail ≡ 26 = omega (arith, length-append m (line_of entry.End ++ []), length-append (line_of entry.End) [], length_line (entry.Limits s.limits), length_line entry.End) in
+      let tail_is : length tail ≡ 26 = two_lines (entry.Limits s.limits) entry.End in
       let links_is = length_rows entry.Link 31 (λ l. length_line (entry.Link l)) s.links in
       let guides_is = length_rows entry.Guide 23 (λ g. length_line (entry.Guide g)) s.guides in
       record {

@@ -1,7 +1,7 @@
 use Rattle.std.proofs.Common.{◌≤◌, length, Ok, ap, ◌∙◌, arith}
 use Rattle.std.proofs.lemmas.Bool.{le-leb, lt-leb}
 use Rattle.sheet.specs.Sheets.{written, records}
-use Rattle.sheet.proofs.Encoding.{rows_end, lengths, written_front, each_back}
+use Rattle.sheet.proofs.Encoding.{rows_end, two_lines, lengths, written_front, each_back}
 use Rattle.sheet.proofs.RoundTrip.{read_back}
 use Rattle.sheet.proofs.writing.encode.Goals as goal
 
@@ -34,7 +34,7 @@ write_rows-requires-4 c =
     let i = rows_end c.in_ok-links_at.ensures.value in
     let j = rows_end c.in_ok-guides_at.ensures.value in
     let k = rows_end c.in_ok-limits_at.ensures.value in
-    omega arith
+    omega (arith, two_lines)
 
 pub returns : goal.returns
 returns c =
