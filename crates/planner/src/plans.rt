@@ -36,7 +36,7 @@ impl<S: Scale, R> Plan<S, R> {
         if count > links.len() {
             return Err(Refusal::RouteTooLong);
         }
-        write_route(trails, place, &mut links[..count]);
+        write_route(trails, place, count, links);
         Ok(count)
     }
 }

@@ -1,7 +1,7 @@
 // A trail's path read back along its parents: how many links it has, and their numbers put first to last.
 #![tactic(auto)]
 
-ghost use Rattle.std.specs.Prelude.{◌≡◌, length};
+ghost use Rattle.std.specs.Prelude.{◌≡◌, ◌≤◌, ◌++◌, length, drop};
 ghost use Rattle.trails.specs.Tables.{trail_path};
 ghost use Rattle.routes.specs.Walks.{LeadsBack};
 
@@ -19,13 +19,14 @@ pub fn route_length<S: Scale>(trails: &[Trail<S>], place: usize) -> usize
     LinksBack { trails, at: place }.count()
 }
 
-// Writes the links of that path, first to last, into as many places.
-pub fn write_route<S: Scale>(trails: &[Trail<S>], place: usize, links: &mut [u16])
+// The links of that path, first to last, at the front of the buffer, which has room for so many.
+pub fn write_route<S: Scale>(trails: &[Trail<S>], place: usize, count: usize, links: &mut [u16])
     requires leads { LeadsBack S.Scale trails.now place }
-    requires fits { length links.old ≡ length (trail_path S.Scale trails.now place) }
-    ensures { links.new ≡ trail_path S.Scale trails.now place }
+    requires counted { count ≡ length (trail_path S.Scale trails.now place) }
+    requires room { count ≤ length links.old }
+    ensures { links.new ≡ trail_path S.Scale trails.now place ++ drop count links.old }
 {
-    for (next, link) in (0..links.len()).rev().zip(LinksBack { trails, at: place }) {
+    for (next, link) in (0..count).rev().zip(LinksBack { trails, at: place }) {
         links[next] = link;
     }
 }

@@ -1,4 +1,4 @@
-use Rattle.std.proofs.Common.{◌∙◌, length, arith}
+use Rattle.std.proofs.Common.{◌∙◌}
 use Rattle.trails.specs.Tables.{trail_path}
 use Rattle.routes.proofs.Backs.{written_more}
 use Rattle.routes.proofs.write_route.Goals as goal
@@ -10,5 +10,5 @@ loop-next-preserved g c =
       c.in-Some.ensures.goes.keeps,
       tt,
       turn.0.0 ∙ kept.2,
-      rw turn.0.1.1 (written_more (trail_path g.S.Scale c.args.trails.now c.args.place) c.args.links.now (length c.args.links.now) c.requires.fits (omega arith) kept.3 turn.1 turn.0.1.2),
+      rw turn.0.1.1 (written_more (trail_path g.S.Scale c.args.trails.now c.args.place) c.args.links.now c.args.count c.requires.counted c.requires.room kept.3 turn.1 turn.0.1.2),
     )

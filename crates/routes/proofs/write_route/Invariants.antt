@@ -1,5 +1,5 @@
 -- The links walked so far are written, behind what was there before.
-use Rattle.std.proofs.Common.{◌≡◌, length}
+use Rattle.std.proofs.Common.{◌≡◌}
 use Rattle.std.specs.Iterator.Adapters.{zip_first, zip_second, rev_source}
 use Rattle.trails.specs.Tables.{trail_path}
 use Rattle.routes.specs.Walks.{links_back}
@@ -11,4 +11,4 @@ invariant-loop-next g l =
     let slots = rev_source (zip_first l.next-iterator) in
     let walk = zip_second l.next-iterator in
     (goal.iterator-loop-next g).can_next l.next-iterator × (goal.iterator-loop-next g).is_finite l.next-iterator
-    × (slots.start ≡ 0) × Written (trail_path g.S.Scale l.trails l.place) l.initial.links l.links (links_back g.S.Scale walk.trails.now walk.at) (length l.initial.links) slots.end
+    × (slots.start ≡ 0) × Written (trail_path g.S.Scale l.trails l.place) l.initial.links l.links (links_back g.S.Scale walk.trails.now walk.at) l.count slots.end

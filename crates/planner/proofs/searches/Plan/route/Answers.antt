@@ -1,4 +1,3 @@
-use Rattle.std.proofs.Common.{◌++◌, drop, ap}
 use Rattle.trails.specs.Repertoires.{held_by}
 use Rattle.planner.proofs.Serves.{route_refused, leads_back, route_too_long, route_done}
 use Rattle.planner.proofs.searches.Plan.route.Goals as goal
@@ -23,4 +22,4 @@ write_route-requires-clause-leads g c =
 pub returns : goal.returns
 returns g c =
     route_done g.S.Scale (held_by c.args.repertoire) c.args.self.now.settled c.args.trails.now c.args.links.now c.in_ok-check_call.ensures c.from-place.result c.route_length-count.result c.from-place.ensures
-    c.route_length-count.ensures c.if-count-links.false _ (ap (λ xs. xs ++ drop c.route_length-count.result c.args.links.now) c.write_route.ensures)
+    c.route_length-count.ensures c.if-count-links.false c.write_route.new.links c.write_route.ensures
