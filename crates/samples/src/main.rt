@@ -4,8 +4,8 @@
 ghost use Rattle.std.specs.Prelude.{◌≡◌};
 ghost use Rattle.scale.specs.Weave.{woven};
 
-use anyhow::Result;
 use begun::{begun_stop, begun_trip};
+use faults::Fault;
 use outcomes::Answer;
 use planner::begin;
 use repertoire::{Header, Link, Repertoire};
@@ -16,6 +16,7 @@ use trails::{Step, Trail};
 use trips::{refused, stop, trip};
 
 mod begun;
+mod faults;
 mod outcomes;
 mod rows;
 mod trips;
@@ -69,7 +70,7 @@ fn plans_of_the_sheet(
     rt: &impl Print,
     sheet: Repertoire<'_, WeaveCost>,
     trails: &mut [Trail<WeaveCost>],
-) -> Result<()> {
+) -> Result<(), Fault> {
     let four: &mut [Trail<WeaveCost>] = &mut [unused_place(); 4];
     let first = begun_trip(sheet, sheet_preference(), trails, MOST)?;
     println!(rt;
@@ -94,7 +95,7 @@ fn steps_of_the_sheet(
     rt: &impl Print,
     sheet: Repertoire<'_, WeaveCost>,
     trails: &mut [Trail<WeaveCost>],
-) -> Result<()> {
+) -> Result<(), Fault> {
     println!(rt; "The sample sheet step by step")?;
     let mut looking = begin(sheet, sheet_preference(), trails)?;
     for _ in 0..10 {
@@ -108,7 +109,7 @@ fn steps_of_the_sheet(
 }
 
 // A change of harness, by the other rule.
-fn plan_of_a_change(rt: &impl Print) -> Result<()> {
+fn plan_of_a_change(rt: &impl Print) -> Result<(), Fault> {
     let hooks: &[Link<HarnessCost>] = &change_links();
     let works: &[HarnessCost] = &[harness_cost(Grade::Tiny, 0); 3];
     let table: &mut [Trail<HarnessCost>] = &mut [unused_place(); 8];
@@ -127,7 +128,7 @@ fn plan_of_a_change(rt: &impl Print) -> Result<()> {
 }
 
 // One motif, and two without a link, with budgets that suffice and that don't.
-fn smallest_plans(rt: &impl Print, trails: &mut [Trail<WeaveCost>]) -> Result<()> {
+fn smallest_plans(rt: &impl Print, trails: &mut [Trail<WeaveCost>]) -> Result<(), Fault> {
     let none = weave_cost(0, 0, 0);
     let one: &[WeaveCost] = &[none];
     let two: &[WeaveCost] = &[none; 2];
@@ -155,7 +156,7 @@ fn refused_beginnings(
     rt: &impl Print,
     sheet: Repertoire<'_, WeaveCost>,
     trails: &mut [Trail<WeaveCost>],
-) -> Result<()> {
+) -> Result<(), Fault> {
     let high: &[WeaveCost] = &[weave_cost(5, 3, 40); 3];
     let empty = Repertoire {
         header: EMPTY,
@@ -180,7 +181,7 @@ fn refused_calls(
     rt: &impl Print,
     sheet: Repertoire<'_, WeaveCost>,
     trails: &mut [Trail<WeaveCost>],
-) -> Result<()> {
+) -> Result<(), Fault> {
     let seven: &mut [Trail<WeaveCost>] = &mut [unused_place(); 7];
     let back = Repertoire {
         header: BACK,
@@ -202,7 +203,7 @@ fn refused_calls(
     Ok(())
 }
 
-fn main(rt: HostRuntime) -> Result<()> {
+fn main(rt: HostRuntime) -> Result<(), Fault> {
     let links: &[Link<WeaveCost>] = &sheet_links();
     let guides: &[WeaveCost] = &[weave_cost(0, 0, 0); 3];
     // One row for all of them: what one sample leaves in it, the next begins with.
