@@ -36,7 +36,7 @@ impl fmt::Display for Limits {
         writeln!(f, "Limits, the most important first:")?;
         writeln!(f, "  longest float: {float} at most")?;
         writeln!(f, "  yarns: {yarns}")?;
-        write!(f, "  picks: {picks} at most")
+        writeln!(f, "  picks: {picks} at most")
     }
 }
 

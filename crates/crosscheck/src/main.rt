@@ -141,7 +141,7 @@ fn try_sheet<R: Files + Alloc + Print>(
                 sheet.as_slice(),
                 buffer,
             );
-            println!(rt; "{account}")?;
+            print!(rt; "{account}")?;
             println!(rt; "Written again byte for byte: {same}")
         }
         Err(rejection) => println!(rt; "{rejection}"),
@@ -171,7 +171,7 @@ fn try_edge<R: Alloc + Print>(
         links.as_mut_slice(),
         guides.as_mut_slice(),
     ) {
-        Ok(account) => println!(rt; "{account}"),
+        Ok(account) => print!(rt; "{account}"),
         Err(rejection) => println!(rt; "{rejection}"),
     }
 }

@@ -25,7 +25,7 @@ fn main(rt: HostRuntime) -> io::Result<()> {
         links.as_mut_slice(),
         guides.as_mut_slice(),
     ) {
-        Ok(account) => println!(rt; "{account}"),
+        Ok(account) => print!(rt; "{account}"),
         Err(rejection) => println!(rt; "{rejection}"),
     }
 }
